@@ -1,0 +1,9 @@
+pub mod Sums
+pub mod Members
+pub mod Tests
+pub mod Cancel
+pub mod Counting
+pub mod Perms
+pub mod Props
+pub mod Rolls
+pub mod Answered

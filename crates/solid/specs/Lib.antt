@@ -1,0 +1,6 @@
+pub mod Lists
+pub mod Faces
+pub mod Rules
+pub mod Entering
+pub mod Roll
+pub mod Corners
