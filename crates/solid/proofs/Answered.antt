@@ -9,7 +9,7 @@ use Rattle.fault.specs.declared.shape.ShapeFault.{ShapeFault}
 use Rattle.fault.specs.declared.shape.ShapeFault.the-variants.{Corner as BadCorner, EdgeTwice}
 use Rattle.solid.specs.Lists.{In, Distinct}
 use Rattle.solid.specs.Faces.{Corner, Ring, Edge, edges, allEdges}
-use Rattle.solid.specs.Rules.{Valid, corners, Agree, Enterable}
+use Rattle.solid.specs.Rules.{Valid, Sized, Tidy, corners, Agree, Enterable}
 use Rattle.solid.specs.Entering.{Entry, Refused, Or-else, AllAllowed, FirstMisfit, FirstIn, Enter-says, entered}
 use Rattle.solid.specs.Roll.{Call, enter, Rolls}
 use Rattle.solid.proofs.Members.{in-append, in-left, in-right, in-map}
@@ -118,6 +118,9 @@ module _ (fs : List Ring) where
         ])),
   )
 
+pub allowed-tidy : (fs : List Ring) (r : Ring) → Sized r → AllAllowed fs [] r → Tidy r
+allowed-tidy fs r s h = record { sized = s; valid = allowed-valid fs [] r h; keys = allowed-keys fs [] r h }
+
 -- ---- all tests passed
 abbrev Taken : Entry → Type 0
 Taken (Ok done) = Unit {0}
@@ -132,7 +135,7 @@ enter-taken fs r h =
     let s17 = passed (λ e. subst Taken (e .2 .0) tt) (s16 .1) in
     let s18 = passed (λ e. subst Taken (e .0) tt) (s17 .1) in
     record {
-      proper = record { sized = s14 .0; valid = allowed-valid fs [] r (s14′ .0); keys = allowed-keys fs [] r (s14′ .0); planar = s15 .0; simple = s16 .0 };
+      proper = record { tidy = allowed-tidy fs r (s14 .0) (s14′ .0); planar = s15 .0; simple = s16 .0 };
       agree = λ a b i j. elim (in-append b r (corners fs) j) [ inl k ↦ agree-within fs [] r (s14′ .0) a b i k | inr k ↦ agree-before fs [] r (s14′ .0) a b i (inr k) ];
       fresh = s17 .0;
       limits = s18 .0;
@@ -142,9 +145,9 @@ pub enterable-taken : (fs : List Ring) (r : Ring) → Enterable fs r → Enter-s
 enterable-taken fs r h =
     let p = h .proper in
     inr (
-      p .sized,
+      p .tidy .sized,
       inr (
-        allowed-all fs [] r (p .valid) (p .keys) (λ c d i j k. j)
+        allowed-all fs [] r (p .tidy .valid) (p .tidy .keys) (λ c d i j k. j)
             (λ c d i j. h .agree c d i (elim j [ inl l ↦ elim l [ inl m ↦ absurd m | inr m ↦ in-left d r (corners fs) m ] | inr l ↦ in-right d r (corners fs) l ])),
         inr (p .planar, inr (p .simple, inr (h .fresh, inr (h .limits, refl)))),
       ),

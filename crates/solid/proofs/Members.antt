@@ -2,6 +2,9 @@
 use mathlib.Core.Path.{_≡_, refl, sym, _∙_, ap, subst}
 use mathlib.Core.Logic.{_⊎_, inl, inr}
 use mathlib.Core.List.{List, [], _∷_, _++_, map, append-assoc}
+use Prim.Native.Nat.{ℕ, zero, suc, _<_}
+use native.Mathlib.Omega.{arith}
+use lib.ListN.{length, getD}
 use Rattle.solid.specs.Lists.{In, Distinct}
 use Rattle.solid.specs.Faces.{Corner, Ring, Edge, steps, edges, allEdges}
 use Rattle.solid.specs.Rules.{corners}
@@ -34,6 +37,17 @@ module _ {X : Type 0} where
   pub distinct-right : (xs ys : List X) → Distinct (xs ++ ys) → Distinct ys
   distinct-right [] ys d = d
   distinct-right (x ∷ xs) ys d = distinct-right xs ys (d .1)
+
+-- ---- membership by places
+pub in-at : {X : Type 0} (xs : List X) (d : X) (i : ℕ) → i < length xs → In (getD xs i d) xs
+in-at [] d i h = absurd (omega arith)
+in-at (x ∷ xs) d zero h = inl refl
+in-at (x ∷ xs) d (suc i) h = inr (in-at xs d i (omega arith))
+
+pub at-in : {X : Type 0} (xs : List X) (d x : X) → In x xs → (i : ℕ) × (i < length xs) × (x ≡ getD xs i d)
+at-in [] d x h = absurd h
+at-in (y ∷ ys) d x (inl e) = (0, omega arith, e)
+at-in (y ∷ ys) d x (inr h) = let t = at-in ys d x h in (suc (t .0), omega (arith, t .1), t .2)
 
 module _ {X Y : Type 0} (f : X → Y) where
   pub in-map : (x : X) (xs : List X) → In x xs → In (f x) (map f xs)

@@ -10,7 +10,7 @@ use lib.IntN.{ℤ-set}
 use Rattle.solid.specs.Lists.{Distinct}
 use Rattle.algebra.specs.Vector.{V3, Within}
 use Rattle.solid.specs.Faces.{Corner, Ring, Edge}
-use Rattle.solid.specs.Rules.{Valid, Meet, NoCrossing, Proper, Agree, Limits, Consistent}
+use Rattle.solid.specs.Rules.{Valid, Meet, NoCrossing, Tidy, Proper, Agree, Limits, Consistent}
 
 ℕ-one : (m n : ℕ) → IsProp (m ≡ n)
 ℕ-one m n = hedberg ℕ-discrete m n
@@ -43,11 +43,16 @@ no-crossing-one e f p q = λ i. record {
   joined = Π-prop (λ _. Π-prop (λ (m : Meet e f). ×-prop (ℕ-one (m .s) (m .d)) (ℕ-one (m .t) 0))) (p .joined) (q .joined) i;
 }
 
-pub proper-one : (r : Ring) → IsProp (Proper r)
-proper-one r p q = λ i. record {
+tidy-one : (r : Ring) → IsProp (Tidy r)
+tidy-one r p q = λ i. record {
   sized = (le-prop (p .sized .0) (q .sized .0) i, le-prop (p .sized .1) (q .sized .1) i);
   valid = Π-prop (λ c. Π-prop (λ _. valid-one c)) (p .valid) (q .valid) i;
   keys = distinct-one _ (p .keys) (q .keys) i;
+}
+
+proper-one : (r : Ring) → IsProp (Proper r)
+proper-one r p q = λ i. record {
+  tidy = tidy-one r (p .tidy) (q .tidy) i;
   planar = (¬-prop (p .planar .0) (q .planar .0) i, Π-prop (λ c. Π-prop (λ _. ℤ-set _ _)) (p .planar .1) (q .planar .1) i);
   simple = Π-prop (λ e. Π-prop (λ f. Π-prop (λ _. Π-prop (λ _. no-crossing-one e f)))) (p .simple) (q .simple) i;
 }

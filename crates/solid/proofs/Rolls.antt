@@ -33,7 +33,7 @@ module _ (fs : List Ring) (r : Ring) (h : Consistent fs) (k : Enterable fs r) wh
       | inr p ↦ k .agree a b p (elim (in-corners b j) [ inl q ↦ in-right b r (corners fs) q | inr q ↦ in-left b r (corners fs) q ])
     ];
     once = subst Distinct (sym (allEdges-append fs (r ∷ []))) (subst (λ (t : List Edge). Distinct (allEdges fs ++ t)) (sym (append-nil (edges r)))
-        (distinct-append (allEdges fs) (edges r) (h .once) (edges-once r (k .proper .keys)) (λ e i j. k .fresh e j i)));
+        (distinct-append (allEdges fs) (edges r) (h .once) (edges-once r (k .proper .tidy .keys)) (λ e i j. k .fresh e j i)));
     limits = k .limits;
   }
 

@@ -20,6 +20,12 @@ pub record Valid (c : Corner) : Type 0 where
 abbrev pub Sized : Ring → Type 0
 Sized r = (3 ≤ length r) × (length r ≤ 64)
 
+-- what the corners of a ring meet alone, before its shape is looked at
+pub record Tidy (r : Ring) : Type 0 where
+  pub sized : Sized r
+  pub valid : (c : Corner) → In c r → Valid c
+  pub keys : Distinct (map (λ c. c .key) r)
+
 -- every corner lies in the plane through the first one that D is normal to
 abbrev pub Flat : Ring → Type 0
 Flat r = (c : Corner) → In c r → dot (c .position -ᵛ start r) (D r) ≡ pos 0
@@ -41,9 +47,7 @@ Simple r = (e f : Edge) → In e (edges r) → In f (edges r) → NoCrossing e f
 
 -- what a ring meets alone
 pub record Proper (r : Ring) : Type 0 where
-  pub sized : Sized r
-  pub valid : (c : Corner) → In c r → Valid c
-  pub keys : Distinct (map (λ c. c .key) r)
+  pub tidy : Tidy r
   pub planar : Planar r
   pub simple : Simple r
 
