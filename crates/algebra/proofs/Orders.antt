@@ -33,6 +33,9 @@ add-not-negative a b h k = omega (arith, ints)
 pub zero-from-neg : (a : ℤ) → a ≡ negℤ a → a ≡ pos 0
 zero-from-neg a h = omega (arith, ints)
 
+pub equal-from-difference : (a b : ℤ) → a -ℤ b ≡ pos 0 → a ≡ b
+equal-from-difference a b h = omega (arith, ints)
+
 -- ---- products
 pub mul-not-negative : (a b : ℤ) → pos 0 ≤ℤ a → pos 0 ≤ℤ b → pos 0 ≤ℤ (a *ℤ b)
 mul-not-negative (pos a) (pos b) h k = record { le = le→leb 0 (a * b) zero-le }

@@ -7,3 +7,6 @@ pub mod Perms
 pub mod Props
 pub mod Rolls
 pub mod Answered
+pub mod Turning
+pub mod Growth
+pub mod Opens

@@ -1,7 +1,7 @@
 -- Membership and no repeats, in lists put together.
 use mathlib.Core.Path.{_≡_, refl, sym, _∙_, ap, subst}
 use mathlib.Core.Logic.{_⊎_, inl, inr}
-use mathlib.Core.List.{List, [], _∷_, _++_, map, append-assoc}
+use mathlib.Core.List.{List, [], _∷_, _++_, map, append-assoc, append-nil}
 use Prim.Native.Nat.{ℕ, zero, suc, _<_}
 use native.Mathlib.Omega.{arith}
 use lib.ListN.{length, getD}
@@ -73,7 +73,51 @@ pub some-step : (c : Corner) (cs : List Corner) (z : Corner) → (e : Edge) × I
 some-step c [] z = ((c, z), inl refl)
 some-step c (b ∷ bs) z = ((c, b), inl refl)
 
+pub edges-length : (r : Ring) → length (edges r) ≡ length r
+edges-length [] = refl
+edges-length (c ∷ cs) = go c cs c
+  where
+    go : (a : Corner) (bs : List Corner) (z : Corner) → length (steps a bs z) ≡ suc (length bs)
+    go a [] z = refl
+    go a (b ∷ bs) z = ap suc (go b bs z)
+
+-- the ends of an edge are corners
+starts : (a : Corner) (cs : List Corner) (z : Corner) (e : Edge) → In e (steps a cs z) → In (e .0) (a ∷ cs)
+starts a [] z e (inl p) = inl (ap (λ (f : Edge). f .0) p)
+starts a [] z e (inr n) = absurd n
+starts a (b ∷ bs) z e (inl p) = inl (ap (λ (f : Edge). f .0) p)
+starts a (b ∷ bs) z e (inr i) = inr (starts b bs z e i)
+
+pub edge-from : (r : Ring) (e : Edge) → In e (edges r) → In (e .0) r
+edge-from [] e i = i
+edge-from (a ∷ cs) e i = starts a cs a e i
+
+ends : (a : Corner) (cs : List Corner) (z : Corner) (e : Edge) → In e (steps a cs z) → In (e .1) cs ⊎ (e .1 ≡ z)
+ends a [] z e (inl p) = inr (ap (λ (f : Edge). f .1) p)
+ends a [] z e (inr n) = absurd n
+ends a (b ∷ bs) z e (inl p) = inl (inl (ap (λ (f : Edge). f .1) p))
+ends a (b ∷ bs) z e (inr i) = elim (ends b bs z e i) [ inl j ↦ inl (inr j) | inr q ↦ inr q ]
+
+pub edge-to : (r : Ring) (e : Edge) → In e (edges r) → In (e .1) r
+edge-to [] e i = i
+edge-to (a ∷ cs) e i = elim (ends a cs a e i) [ inl j ↦ inr j | inr q ↦ inl q ]
+
 -- ---- faces
+pub face-of : (e : Edge) (fs : List Ring) → In e (allEdges fs) → (r : Ring) × In r fs × In e (edges r)
+face-of e [] i = absurd i
+face-of e (f ∷ fs) i = elim (in-append e (edges f) (allEdges fs) i) [ inl j ↦ (f, inl refl, j) | inr j ↦ (let k = face-of e fs j in (k .0, inr (k .1), k .2)) ]
+
+pub in-corners : (c : Corner) (r : Ring) (fs : List Ring) → In r fs → In c r → In c (corners fs)
+in-corners c r [] i j = i
+in-corners c r (f ∷ fs) (inl p) j = in-left c f (corners fs) (subst (In c) p j)
+in-corners c r (f ∷ fs) (inr i) j = in-right c f (corners fs) (in-corners c r fs i j)
+
+-- the ends of an edge of some faces are corners of them
+pub ends-in-corners : (e : Edge) (fs : List Ring) → In e (allEdges fs) → In (e .0) (corners fs) × In (e .1) (corners fs)
+ends-in-corners e fs i =
+    let r = face-of e fs i in
+    (in-corners (e .0) (r .0) fs (r .1) (edge-from (r .0) e (r .2)), in-corners (e .1) (r .0) fs (r .1) (edge-to (r .0) e (r .2)))
+
 pub in-allEdges : (e : Edge) (r : Ring) (fs : List Ring) → In r fs → In e (edges r) → In e (allEdges fs)
 in-allEdges e r [] i j = i
 in-allEdges e r (f ∷ fs) (inl p) j = in-left e (edges f) (allEdges fs) (subst (λ (t : Ring). In e (edges t)) p j)
@@ -94,3 +138,10 @@ allEdges-append (f ∷ fs) gs = ap (λ t. edges f ++ t) (allEdges-append fs gs) 
 pub corners-append : (fs gs : List Ring) → corners (fs ++ gs) ≡ corners fs ++ corners gs
 corners-append [] gs = refl
 corners-append (f ∷ fs) gs = ap (λ t. f ++ t) (corners-append fs gs) ∙ sym (append-assoc f (corners fs) (corners gs))
+
+-- one face more
+pub allEdges-more : (fs : List Ring) (r : Ring) → allEdges (fs ++ r ∷ []) ≡ allEdges fs ++ edges r
+allEdges-more fs r = allEdges-append fs (r ∷ []) ∙ ap (λ t. allEdges fs ++ t) (append-nil (edges r))
+
+pub corners-more : (fs : List Ring) (r : Ring) → corners (fs ++ r ∷ []) ≡ corners fs ++ r
+corners-more fs r = corners-append fs (r ∷ []) ∙ ap (λ t. corners fs ++ t) (append-nil r)

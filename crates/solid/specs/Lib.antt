@@ -4,3 +4,4 @@ pub mod Rules
 pub mod Entering
 pub mod Roll
 pub mod Corners
+pub mod Reversal

@@ -1,0 +1,86 @@
+-- One edge more: it closes its reverse where that is there, and is open itself where not.
+-- Over any type with a test of equality and a reversal, so that nothing of corners is used.
+use mathlib.Core.Path.{_≡_, refl, sym, _∙_, ap, ap₂, subst}
+use mathlib.Core.Logic.{_⊎_, inl, inr}
+use mathlib.Core.Bool.{Bool, true, false, not, cond, _||_, true≢false}
+use mathlib.Core.List.{List, [], _∷_, _++_}
+use Prim.Native.Nat.{ℕ, suc, _+_}
+use native.Mathlib.Omega.{arith}
+use lib.ListN.{length, length-append}
+use Rattle.std.specs.shelf.Lists.{kept-by}
+use Rattle.solid.specs.Lists.{In, Distinct, has}
+use Rattle.solid.proofs.Members.{in-append, in-left, in-right}
+use Rattle.solid.proofs.Cancel.{Tells, in-from-has, has-from-in, has-not}
+
+module _ {X : Type 0} where
+  kept-same : (p q : X → Bool) (xs : List X) → ((x : X) → In x xs → q x ≡ p x) → kept-by q xs ≡ kept-by p xs
+  kept-same p q [] h = refl
+  kept-same p q (x ∷ xs) h = ap₂ (λ b l. cond b (x ∷ l) l) (h x (inl refl)) (kept-same p q xs (λ y i. h y (inr i)))
+
+  kept-append : (p : X → Bool) (xs ys : List X) → kept-by p (xs ++ ys) ≡ kept-by p xs ++ kept-by p ys
+  kept-append p [] ys = refl
+  kept-append p (x ∷ xs) ys = elim (p x) as (λ b. cond b (x ∷ kept-by p (xs ++ ys)) (kept-by p (xs ++ ys)) ≡ cond b (x ∷ kept-by p xs) (kept-by p xs) ++ kept-by p ys) [
+    | true ↦ ap (λ l. x ∷ l) (kept-append p xs ys)
+    | false ↦ kept-append p xs ys
+  ]
+
+  -- a test that also drops y, which the other keeps, keeps one element less
+  kept-less : (p q : X → Bool) (y : X) (xs : List X) → Distinct xs → In y xs → p y ≡ true → q y ≡ false → ((x : X) → In x xs → (x ≡ y → ⊥) → q x ≡ p x) → length (kept-by q xs) + 1 ≡ length (kept-by p xs)
+  kept-less p q y [] d i t f h = absurd i
+  kept-less p q y (x ∷ xs) d (inl e) t f h =
+      let same = kept-same p q xs (λ z j. h z (inr j) (λ g. d .0 (subst (λ w. In w xs) (g ∙ e) j))) in
+      ap (λ b. length (cond b (x ∷ kept-by q xs) (kept-by q xs)) + 1) (ap q (sym e) ∙ f)
+      ∙ ap (λ l. length l + 1) same
+      ∙ step (length (kept-by p xs))
+      ∙ sym (ap (λ b. length (cond b (x ∷ kept-by p xs) (kept-by p xs))) (ap p (sym e) ∙ t))
+    where
+      step : (n : ℕ) → n + 1 ≡ suc n
+      step n = omega arith
+  kept-less p q y (x ∷ xs) d (inr i) t f h =
+      ap (λ b. length (cond b (x ∷ kept-by q xs) (kept-by q xs)) + 1) (h x (inl refl) (λ g. d .0 (subst (λ w. In w xs) (sym g) i)))
+      ∙ go (p x) (kept-less p q y xs (d .1) i t f (λ z j n. h z (inr j) n))
+    where
+      go : (b : Bool) → length (kept-by q xs) + 1 ≡ length (kept-by p xs) → length (cond b (x ∷ kept-by q xs) (kept-by q xs)) + 1 ≡ length (cond b (x ∷ kept-by p xs) (kept-by p xs))
+      go true e = omega arith
+      go false e = e
+
+module _ {X : Type 0} (same : X → X → Bool) (tells : Tells same) (flip : X → X) (twice : (x : X) → flip (flip x) ≡ x) where
+  -- how many elements have no reverse
+  abbrev pub openCount : List X → ℕ
+  openCount xs = length (kept-by (λ x. not (has same (flip x) xs)) xs)
+
+  module _ (xs : List X) (n : X) (new : In n xs → ⊥) (apart : flip n ≡ n → ⊥) where
+    has-other : (x : X) → (x ≡ n → ⊥) → has same x (xs ++ n ∷ []) ≡ has same x xs
+    has-other x ne = go (has same x xs) refl
+      where
+        go : (b : Bool) → has same x xs ≡ b → has same x (xs ++ n ∷ []) ≡ b
+        go true e = has-from-in same tells x (xs ++ n ∷ []) (in-left x xs (n ∷ []) (in-from-has same tells x xs e))
+        go false e = has-not same tells x (xs ++ n ∷ []) (λ i. elim (in-append x xs (n ∷ []) i) [
+          | inl j ↦ true≢false (sym (has-from-in same tells x xs j) ∙ e)
+          | inr j ↦ elim j [ inl p ↦ ne p | inr z ↦ z ]
+        ])
+
+    -- only the reverse of n has n as its reverse
+    reverse-of : (x : X) → flip x ≡ n → x ≡ flip n
+    reverse-of x e = sym (twice x) ∙ ap flip e
+
+    split : openCount (xs ++ n ∷ []) ≡ length (kept-by (λ x. not (has same (flip x) (xs ++ n ∷ []))) xs) + length (cond (not (has same (flip n) (xs ++ n ∷ []))) (n ∷ []) [])
+    split =
+        ap length (kept-append (λ x. not (has same (flip x) (xs ++ n ∷ []))) xs (n ∷ []))
+        ∙ length-append (kept-by (λ x. not (has same (flip x) (xs ++ n ∷ []))) xs) (cond (not (has same (flip n) (xs ++ n ∷ []))) (n ∷ []) [])
+
+    pub opens-one : (In (flip n) xs → ⊥) → openCount (xs ++ n ∷ []) ≡ openCount xs + 1
+    opens-one out =
+        split
+        ∙ ap₂ _+_ (ap length (kept-same (λ x. not (has same (flip x) xs)) (λ x. not (has same (flip x) (xs ++ n ∷ []))) xs
+        (λ x i. ap not (has-other (flip x) (λ e. out (subst (λ w. In w xs) (reverse-of x e) i))))))
+        (ap (λ b. length (cond (not b) (n ∷ []) [])) (has-other (flip n) apart ∙ has-not same tells (flip n) xs out))
+
+    pub closes-one : Distinct xs → In (flip n) xs → openCount (xs ++ n ∷ []) + 1 ≡ openCount xs
+    closes-one d in-xs =
+        let less = kept-less (λ x. not (has same (flip x) xs)) (λ x. not (has same (flip x) (xs ++ n ∷ []))) (flip n) xs d in-xs
+        (ap (λ w. not (has same w xs)) (twice n) ∙ ap not (has-not same tells n xs new))
+        (ap (λ w. not (has same w (xs ++ n ∷ []))) (twice n) ∙ ap not (has-from-in same tells n (xs ++ n ∷ []) (in-right n xs (n ∷ []) (inl refl))))
+        (λ x i ne. ap not (has-other (flip x) (λ e. ne (reverse-of x e)))) in
+        let none = ap (λ b. length (cond (not b) (n ∷ []) [])) (has-from-in same tells (flip n) (xs ++ n ∷ []) (in-left (flip n) xs (n ∷ []) in-xs)) in
+        omega (arith, split, less, none)
