@@ -9,12 +9,13 @@ use lib.Dec.{ltb}
 use lib.ListN.{length, getD}
 use Rattle.std.proofs.shelf.Lists.{getD-append-left, getD-push, getD-map, length-map}
 use Rattle.std.proofs.shelf.Tests.{cases-lt, cases-order, cond-true, cond-false, cond-both, lt-ltb, le-ltb, ltb-true, ltb-false}
+use Rattle.std.proofs.shelf.Ways.{tells}
 use Rattle.algebra.specs.Vector.{Inside}
 use Rattle.solid.specs.declared.Corner.{Corner as StoredCorner}
 use Rattle.solid.proofs.Members.{in-at, at-in}
 use Rattle.ring.specs.Places.{following, Clear}
 use Rattle.solid.specs.Corners.{cornerOf, ringOf}
-use Rattle.solid.specs.Faces.{Corner, Edge, steps, edges}
+use Rattle.solid.specs.Faces.{Corner, Edge, flip, steps, edges}
 use Rattle.solid.specs.Lists.{In, Distinct}
 use Rattle.solid.specs.Rules.{NoCrossing, Simple, Tidy}
 
@@ -122,6 +123,18 @@ following-apart k i h l = cond-both (ltb (i + 1) k) (i + 1) 0 (λ n. n ≡ i →
 
 pub following-within : (k i : ℕ) → i < k → following k i < k
 following-within k i l = cond-both (ltb (i + 1) k) (i + 1) 0 (λ n. n < k) (λ e. ltb-true (i + 1) k e) (λ _. omega arith)
+
+-- no edge of a ring is the reverse of another: from the end of an edge the ring does not go straight back
+pub no-reverse : (r : List StoredCorner) → Tidy (ringOf r) → (e : Edge) → In e (edges (ringOf r)) → In (flip e) (edges (ringOf r)) → ⊥
+no-reverse r tidy e h k =
+    let i = edge-from r e h in
+    let j = edge-from r (flip e) k in
+    let next = key-place r tidy (j .0) (following (length r) (i .0)) (j .1) (following-within (length r) (i .0) (i .1)) (ap (λ (f : Edge). f .0 .key) (sym (j .2) ∙ ap flip (i .2))) in
+    let back = key-place r tidy (following (length r) (j .0)) (i .0) (following-within (length r) (j .0) (j .1)) (i .1) (ap (λ (f : Edge). f .1 .key) (sym (j .2) ∙ ap flip (i .2))) in
+    around (length r) (i .0) (least-at r tidy) (i .1) (ap (following (length r)) (sym next) ∙ back)
+  where
+    around : (k i : ℕ) → 3 ≤ k → i < k → following k (following k i) ≡ i → ⊥
+    around k i h l = grind (arith, tells)
 
 -- ---- all pairs by places, each once, of the edges before the place n
 abbrev pub AllClear : List StoredCorner → ℕ → Type 0

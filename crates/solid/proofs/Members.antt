@@ -34,6 +34,10 @@ module _ {X : Type 0} where
   distinct-apart (y ∷ xs) ys d x (inl e) j = d .0 (in-right y xs ys (subst (λ t. In t ys) e j))
   distinct-apart (y ∷ xs) ys d x (inr i) j = distinct-apart xs ys (d .1) x i j
 
+  pub distinct-left : (xs ys : List X) → Distinct (xs ++ ys) → Distinct xs
+  distinct-left [] ys d = tt
+  distinct-left (x ∷ xs) ys d = (λ i. d .0 (in-left x xs ys i), distinct-left xs ys (d .1))
+
   pub distinct-right : (xs ys : List X) → Distinct (xs ++ ys) → Distinct ys
   distinct-right [] ys d = d
   distinct-right (x ∷ xs) ys d = distinct-right xs ys (d .1)

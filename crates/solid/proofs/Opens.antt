@@ -3,13 +3,13 @@
 use mathlib.Core.Path.{_≡_, refl, sym, _∙_, ap, ap₂, subst}
 use mathlib.Core.Logic.{_⊎_, inl, inr}
 use mathlib.Core.Bool.{Bool, true, false, not, cond, _||_, true≢false}
-use mathlib.Core.List.{List, [], _∷_, _++_}
-use Prim.Native.Nat.{ℕ, suc, _+_}
+use mathlib.Core.List.{List, [], _∷_, _++_, append-nil, append-assoc}
+use Prim.Native.Nat.{ℕ, suc, _+_, _*_}
 use native.Mathlib.Omega.{arith}
 use lib.ListN.{length, length-append}
 use Rattle.std.specs.shelf.Lists.{kept-by}
 use Rattle.solid.specs.Lists.{In, Distinct, has}
-use Rattle.solid.proofs.Members.{in-append, in-left, in-right}
+use Rattle.solid.proofs.Members.{in-append, in-left, in-right, distinct-apart, distinct-left}
 use Rattle.solid.proofs.Cancel.{Tells, in-from-has, has-from-in, has-not}
 
 module _ {X : Type 0} where
@@ -84,3 +84,23 @@ module _ {X : Type 0} (same : X → X → Bool) (tells : Tells same) (flip : X �
         (λ x i ne. ap not (has-other (flip x) (λ e. ne (reverse-of x e)))) in
         let none = ap (λ b. length (cond (not b) (n ∷ []) [])) (has-from-in same tells (flip n) (xs ++ n ∷ []) (in-left (flip n) xs (n ∷ []) in-xs)) in
         omega (arith, split, less, none)
+
+  -- some elements more, of which none is the reverse of another: each closes one, or is open itself
+  pub open-more : (xs ns : List X) → Distinct (xs ++ ns) → ((n : X) → In n ns → In (flip n) ns → ⊥) → openCount (xs ++ ns) + 2 * length (kept-by (λ n. has same (flip n) xs) ns) ≡ openCount xs + length ns
+  open-more xs [] d loose = ap (λ l. openCount l + 0) (append-nil xs)
+  open-more xs (n ∷ ns) d loose =
+      let later = open-more (xs ++ n ∷ []) ns (subst Distinct (sym (append-assoc xs (n ∷ []) ns)) d) (λ m i j. loose m (inr i) (inr j)) in
+      let whole : openCount ((xs ++ n ∷ []) ++ ns) ≡ openCount (xs ++ n ∷ ns) = ap openCount (append-assoc xs (n ∷ []) ns) in
+      let met : length (kept-by (λ m. has same (flip m) (xs ++ n ∷ [])) ns) ≡ length (kept-by (λ m. has same (flip m) xs) ns) = ap length (kept-same (λ m. has same (flip m) xs) (λ m. has same (flip m) (xs ++ n ∷ [])) ns
+          (λ m i. has-other xs n new apart (flip m) (λ e. loose n (inl refl) (inr (subst (λ w. In w ns) (reverse-of xs n new apart m e) i))))) in
+      go (has same (flip n) xs) refl later whole met
+    where
+      new : In n xs → ⊥
+      new i = distinct-apart xs (n ∷ ns) d n i (inl refl)
+
+      apart : flip n ≡ n → ⊥
+      apart e = loose n (inl refl) (inl e)
+
+      go : (b : Bool) → has same (flip n) xs ≡ b → openCount ((xs ++ n ∷ []) ++ ns) + 2 * length (kept-by (λ m. has same (flip m) (xs ++ n ∷ [])) ns) ≡ openCount (xs ++ n ∷ []) + length ns → openCount ((xs ++ n ∷ []) ++ ns) ≡ openCount (xs ++ n ∷ ns) → length (kept-by (λ m. has same (flip m) (xs ++ n ∷ [])) ns) ≡ length (kept-by (λ m. has same (flip m) xs) ns) → openCount (xs ++ n ∷ ns) + 2 * length (cond b (n ∷ kept-by (λ m. has same (flip m) xs) ns) (kept-by (λ m. has same (flip m) xs) ns)) ≡ openCount xs + suc (length ns)
+      go true e later whole met = omega (arith, closes-one xs n new apart (distinct-left xs (n ∷ ns) d) (in-from-has same tells (flip n) xs e))
+      go false e later whole met = omega (arith, opens-one xs n new apart (λ i. true≢false (sym (has-from-in same tells (flip n) xs i) ∙ e)))

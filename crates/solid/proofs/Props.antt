@@ -31,7 +31,7 @@ within-one n v p q = λ i. record {
 }
 
 valid-one : (c : Corner) → IsProp (Valid c)
-valid-one c p q = λ i. record { key = le-prop (p .key) (q .key) i; position = within-one 50000 (c .position) (p .position) (q .position) i }
+valid-one c p q = λ i. record { key = (le-prop (p .key .0) (q .key .0) i, le-prop (p .key .1) (q .key .1) i); position = within-one 50000 (c .position) (p .position) (q .position) i }
 
 pub distinct-one : {X : Type 0} (xs : List X) → IsProp (Distinct xs)
 distinct-one [] = Unit-prop

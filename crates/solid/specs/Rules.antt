@@ -1,7 +1,7 @@
 -- The rules of a ring alone and of faces together. Each speaks of what is *in* a list and not of where it stands, wherever the rule allows that.
 use mathlib.Core.Path.{_≡_}
 use mathlib.Core.List.{List, [], _∷_, _++_, map}
-use Prim.Native.Nat.{ℕ, _≤_}
+use Prim.Native.Nat.{ℕ, _≤_, _<_, _^_}
 use lib.Dec.{eqb}
 use lib.IntN.{pos}
 use lib.ListN.{length}
@@ -12,9 +12,9 @@ use Rattle.solid.specs.Faces.{Corner, Ring, Edge, edges, allEdges, D, start}
 
 -- ---- one ring
 
--- the key is at least 1, the position in range
+-- the key is at least 1, as a number of 32 bits, and the position in range
 pub record Valid (c : Corner) : Type 0 where
-  pub key : 1 ≤ c .key
+  pub key : (1 ≤ c .key) × (c .key < 2 ^ 32)
   pub position : Inside (c .position)
 
 abbrev pub Sized : Ring → Type 0
