@@ -92,7 +92,7 @@ module _ {X : Type 0} (same : X → X → Bool) (tells : Tells same) (flip : X �
       let later = open-more (xs ++ n ∷ []) ns (subst Distinct (sym (append-assoc xs (n ∷ []) ns)) d) (λ m i j. loose m (inr i) (inr j)) in
       let whole : openCount ((xs ++ n ∷ []) ++ ns) ≡ openCount (xs ++ n ∷ ns) = ap openCount (append-assoc xs (n ∷ []) ns) in
       let met : length (kept-by (λ m. has same (flip m) (xs ++ n ∷ [])) ns) ≡ length (kept-by (λ m. has same (flip m) xs) ns) = ap length (kept-same (λ m. has same (flip m) xs) (λ m. has same (flip m) (xs ++ n ∷ [])) ns
-          (λ m i. has-other xs n new apart (flip m) (λ e. loose n (inl refl) (inr (subst (λ w. In w ns) (reverse-of xs n new apart m e) i))))) in
+      (λ m i. has-other xs n new apart (flip m) (λ e. loose n (inl refl) (inr (subst (λ w. In w ns) (reverse-of xs n new apart m e) i))))) in
       go (has same (flip n) xs) refl later whole met
     where
       new : In n xs → ⊥
