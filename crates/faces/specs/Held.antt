@@ -23,9 +23,8 @@ abbrev pub rings : Faces → List Ring
 rings f = map ringOf (storedRings f)
 
 -- there is room for this many faces, with this many corners in all, with no new memory
-pub record Room (f : Faces) (faces corners : ℕ) : Type 0 where
-  pub ends : faces ≤ vec-cap (f .ends)
-  pub all : corners ≤ vec-cap (f .corners)
+abbrev pub Room : Faces → ℕ → ℕ → Type 0
+Room f faces corners = (faces ≤ vec-cap (f .ends)) × (corners ≤ vec-cap (f .corners))
 
 -- what pushing a ring answers, and what it leaves
 pub record Pushed (f : Faces) (ring : List StoredCorner) (g : Faces) (r : Bool) : Type 0 where

@@ -1,5 +1,5 @@
 // Vectors as three-element arrays by value: differences, sums and products, in widths that cannot overflow within the stated bounds.
-ghost use Rattle.algebra.specs.Vector.{vector, null, _+ᵛ_, _-ᵛ_, cross as cross-of, dot as dot-of, Inside, Small, Large};
+ghost use Rattle.algebra.specs.Vector.{vector, null, _+ᵛ_, _-ᵛ_, cross as cross-of, dot as dot-of, Near, Inside, Small, Large};
 ghost use Rattle.std.specs.Orderings.{Decides};
 ghost use mathlib.Core.Path.{_≡_};
 
@@ -10,6 +10,27 @@ pub fn wide(p: [i32; 3]) -> [i64; 3]
     ensures small { λ r. ⌜ Small (vector r) ⌝ }
 {
     [p[0] as i64, p[1] as i64, p[2] as i64]
+}
+
+// Whether a coordinate lies within ±50,000.
+fn is_near(x: i32) -> bool
+    ensures { λ r. ⌜ Decides r (Near 50000 x) ⌝ }
+{
+    -50_000 <= x && x <= 50_000
+}
+
+// Whether a position is in range.
+pub fn is_inside(p: [i32; 3]) -> bool
+    ensures { λ r. ⌜ Decides r (Inside (vector p)) ⌝ }
+{
+    is_near(p[0]) && is_near(p[1]) && is_near(p[2])
+}
+
+// Whether two positions are one.
+pub fn is_same(p: [i32; 3], q: [i32; 3]) -> bool
+    ensures { λ r. ⌜ Decides r (vector p ≡ vector q) ⌝ }
+{
+    p[0] == q[0] && p[1] == q[1] && p[2] == q[2]
 }
 
 // The vector from q to p.

@@ -16,8 +16,8 @@ returns-then-len-capacity c =
     let k = corner-count (c .args .self .now) in
     record {
       answer = λ faces corners room few fit. absurd (elim (c .then-len-capacity .came) [
-        | then-len-capacity·by·then-len-capacity w ↦ omega (arith, room .ends, w .if-len-capacity .taken)
-        | then-len-capacity·by·else-len-capacity·then-capacity-end w ↦ omega (arith, room .all, w .if-capacity-end .taken, w .capacity-else-len-capacity .ensures)
+        | then-len-capacity·by·then-len-capacity w ↦ omega (arith, room .0, w .if-len-capacity .taken)
+        | then-len-capacity·by·else-len-capacity·then-capacity-end w ↦ omega (arith, room .1, w .if-capacity-end .taken, w .capacity-else-len-capacity .ensures)
       ]);
       rings = refl;
       corners = refl;
@@ -44,5 +44,5 @@ returns c =
       answer = λ _ _ _ _ _. refl;
       rings = rings-push s ring _ _ _ held (c .push-reserved .ensures .items) (omega (arith, c .len .ensures));
       corners = held;
-      room = λ faces corners room. record { ends = omega (arith, room .ends, c .push-reserved .ensures .capacity); all = omega (arith, room .all, c .extend-from-slice .ensures .capacity) };
+      room = λ faces corners room. (omega (arith, room .0, c .push-reserved .ensures .capacity), omega (arith, room .1, c .extend-from-slice .ensures .capacity));
     }

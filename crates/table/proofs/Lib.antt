@@ -1,0 +1,4 @@
+pub mod Maps
+pub mod Ranks
+pub mod Entries
+pub mod Inserts
