@@ -13,21 +13,11 @@ use Rattle.std.proofs.shelf.Ways.{tells}
 use Rattle.algebra.specs.Vector.{Inside}
 use Rattle.solid.specs.declared.Corner.{Corner as StoredCorner}
 use Rattle.solid.proofs.Members.{in-at, at-in}
-use Rattle.ring.specs.Places.{following, Clear}
+use Rattle.ring.specs.Places.{blank, corner, following, edge, Clear}
 use Rattle.solid.specs.Corners.{cornerOf, ringOf}
 use Rattle.solid.specs.Faces.{Corner, Edge, flip, steps, edges}
 use Rattle.solid.specs.Lists.{In, Distinct}
 use Rattle.solid.specs.Rules.{NoCrossing, Simple, Tidy}
-
--- what stands past the end of a ring
-abbrev pub blank : StoredCorner
-blank = record { key = 0; position = [] }
-
-abbrev pub corner : List StoredCorner → ℕ → Corner
-corner r i = cornerOf (getD r i blank)
-
-abbrev pub edge : List StoredCorner → ℕ → Edge
-edge r i = (corner r i, corner r (following (length r) i))
 
 -- ---- what holds of the plain ring, by the places of the program's
 pub corner-at : (r : List StoredCorner) (d : Corner) (i : ℕ) → i < length r → getD (ringOf r) i d ≡ corner r i

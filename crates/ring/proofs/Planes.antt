@@ -16,7 +16,8 @@ use Rattle.ring.specs.Places.{following}
 use Rattle.solid.specs.Corners.{ringOf}
 use Rattle.solid.specs.Faces.{edges, span, spans, D, start}
 use Rattle.solid.specs.Rules.{Tidy}
-use Rattle.ring.proofs.Places.{corner, edge, no-edge, inside-at, few-at, edges-length, edges-at, following-within}
+use Rattle.ring.specs.Places.{corner, edge}
+use Rattle.ring.proofs.Places.{no-edge, inside-at, few-at, edges-length, edges-at, following-within}
 
 pub start-is : (r : List StoredCorner) → corner r 0 .position ≡ start (ringOf r)
 start-is [] = refl

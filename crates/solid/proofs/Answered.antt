@@ -58,7 +58,7 @@ enter-one fs r =
     (one-or-else _ _ _ (one-refused _ _) (λ x y p q. p ∙ sym q))))))
 
 -- corners allowed one after the other, as rules on the whole ring
-key-in : (k : ℕ) (cs : List Corner) → In k (map (λ (c : Corner). c .key) cs) → (c : Corner) × In c cs × (k ≡ c .key)
+pub key-in : (k : ℕ) (cs : List Corner) → In k (map (λ (c : Corner). c .key) cs) → (c : Corner) × In c cs × (k ≡ c .key)
 key-in k [] i = absurd i
 key-in k (c ∷ cs) (inl e) = (c, inl refl, e)
 key-in k (c ∷ cs) (inr i) = let h = key-in k cs i in (h .0, inr (h .1), h .2)

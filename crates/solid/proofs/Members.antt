@@ -116,6 +116,11 @@ in-corners c r [] i j = i
 in-corners c r (f ∷ fs) (inl p) j = in-left c f (corners fs) (subst (In c) p j)
 in-corners c r (f ∷ fs) (inr i) j = in-right c f (corners fs) (in-corners c r fs i j)
 
+-- a corner of some faces is a corner of one of them
+pub ring-of : (c : Corner) (fs : List Ring) → In c (corners fs) → (r : Ring) × In r fs × In c r
+ring-of c [] i = absurd i
+ring-of c (f ∷ fs) i = elim (in-append c f (corners fs) i) [ inl j ↦ (f, inl refl, j) | inr j ↦ (let k = ring-of c fs j in (k .0, inr (k .1), k .2)) ]
+
 -- the ends of an edge of some faces are corners of them
 pub ends-in-corners : (e : Edge) (fs : List Ring) → In e (allEdges fs) → In (e .0) (corners fs) × In (e .1) (corners fs)
 ends-in-corners e fs i =

@@ -16,7 +16,7 @@ use Rattle.solid.specs.Rules.{Valid, Meet, NoCrossing, Tidy, Proper, Agree, Li
 ℕ-one m n = hedberg ℕ-discrete m n
 
 -- two paths between vectors are one, by their three parts
-vector-one : (a b : V3) → IsProp (a ≡ b)
+pub vector-one : (a b : V3) → IsProp (a ≡ b)
 vector-one a b p q = λ i j. record {
   x = ℤ-set (a .x) (b .x) (λ k. p k .x) (λ k. q k .x) i j;
   y = ℤ-set (a .y) (b .y) (λ k. p k .y) (λ k. q k .y) i j;

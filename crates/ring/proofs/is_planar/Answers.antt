@@ -13,7 +13,8 @@ use Rattle.std.proofs.shelf.Ways.{not-from-decides}
 use Rattle.algebra.specs.Vector.{_-ᵛ_, dot}
 use Rattle.solid.specs.Corners.{ringOf}
 use Rattle.solid.specs.Faces.{start, D}
-use Rattle.ring.proofs.Places.{corner, inside-at, least-at, corner-in, corner-from}
+use Rattle.ring.specs.Places.{corner}
+use Rattle.ring.proofs.Places.{inside-at, least-at, corner-in, corner-from}
 use Rattle.ring.proofs.Planes.{start-is}
 use Rattle.ring.proofs.is_planar.Needs as need
 use Rattle.ring.proofs.is_planar.Needs.{After-dot}

@@ -4,7 +4,7 @@ use lib.IntN.{pos}
 use Rattle.algebra.specs.Vector.{_-ᵛ_, dot}
 use Rattle.solid.specs.Corners.{ringOf}
 use Rattle.solid.specs.Faces.{start, D}
-use Rattle.ring.proofs.Places.{corner}
+use Rattle.ring.specs.Places.{corner}
 use Rattle.ring.proofs.is_planar.Given as given
 
 abbrev pub Inv-loop-corner : given.InvT-loop-corner

@@ -11,7 +11,8 @@ use Rattle.std.specs.Orderings.{Decides}
 use Rattle.std.proofs.shelf.Tests.{cases-lt, both-ways, false≢true}
 use Rattle.solid.specs.declared.Corner.{Corner as StoredCorner}
 use Rattle.ring.specs.Places.{following, Clear}
-use Rattle.ring.proofs.Places.{inside-at, corner, edge, same-key, apart-at, simple-from, pair-from}
+use Rattle.ring.specs.Places.{corner, edge}
+use Rattle.ring.proofs.Places.{inside-at, same-key, apart-at, simple-from, pair-from}
 use Rattle.ring.proofs.is_simple.Needs as need
 
 pub clear-requires : need.clear-requires

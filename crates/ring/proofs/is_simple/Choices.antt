@@ -2,7 +2,8 @@ use Prim.Native.Nat.{ℕ, _<_}
 use mathlib.Core.Path.{_≡_}
 use mathlib.Core.Bool.{true}
 use Rattle.ring.specs.Places.{Clear}
-use Rattle.ring.proofs.Places.{edge, AllClear}
+use Rattle.ring.specs.Places.{edge}
+use Rattle.ring.proofs.Places.{AllClear}
 use Rattle.ring.proofs.is_simple.Given as given
 
 -- the edges before i are clear of each other

@@ -6,7 +6,8 @@ use lib.ListN.{length}
 use Rattle.algebra.specs.Vector.{vector, _+ᵛ_, cross, Large}
 use Rattle.algebra.proofs.Bounds.{within-more}
 use Rattle.solid.specs.Faces.{span}
-use Rattle.ring.proofs.Places.{corner, inside-at, edge}
+use Rattle.ring.specs.Places.{corner, edge}
+use Rattle.ring.proofs.Places.{inside-at}
 use Rattle.ring.proofs.Planes.{So-far, sum-large, sum-all, sum-more, term-within}
 use Rattle.ring.proofs.normal.Needs as need
 use Rattle.ring.proofs.normal.Needs.{After-cross}

@@ -1,0 +1,4 @@
+pub mod Props
+pub mod Empty
+pub mod Finds
+pub mod Allowed

@@ -1,0 +1,4 @@
+pub mod Index
+pub mod Meaning
+pub mod Tests
+pub mod Law

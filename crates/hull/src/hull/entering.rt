@@ -1,0 +1,81 @@
+// The tests of entering a ring, each decided exactly.
+ghost use Prim.Native.Nat.{_<_, _≤_, _^_};
+ghost use Rattle.hull.specs.Meaning.{facesOf};
+ghost use Rattle.hull.specs.Tests.{Apart, AgreesWith};
+ghost use Rattle.ring.specs.Places.{corner};
+ghost use Rattle.solid.specs.Corners.{cornerOf, ringOf};
+ghost use Rattle.solid.specs.Entering.{Allowed, AllAllowed, FirstMisfit};
+ghost use Rattle.solid.specs.Rules.{Valid};
+ghost use Rattle.std.specs.Options.{Cases as BySome};
+ghost use Rattle.std.specs.Orderings.{Decides};
+ghost use lib.ListN.{length, take};
+ghost use mathlib.Core.List.{[]};
+use crate::hull::Hull;
+use solid::Corner;
+use space::vector::is_inside;
+use space::vector::is_same;
+use table::rank::KeyRank;
+use table::rank::PositionRank;
+
+// Whether a number of 32 bits may be a key.
+fn is_key(key: u32) -> bool
+    ensures { λ r. ⌜ Decides r ((1 ≤ key) × (key < 2 ^ 32)) ⌝ }
+{
+    key >= 1
+}
+
+// Whether the corner has another key and another position than each one before it.
+fn is_apart(ring: &[Corner], i: usize) -> bool
+    requires { ⌜ i < length (now ring) ⌝ }
+    ensures { λ r. ⌜ Decides r (Apart (now (ring .entry)) i) ⌝ }
+{
+    for j in 0..i {
+        if ring[j].key == ring[i].key || is_same(ring[j].position, ring[i].position) {
+            return false;
+        }
+    }
+    true
+}
+
+impl Hull {
+    // Whether the corner agrees with the hull: its key has this position there, or neither is in it.
+    fn agrees(&self, c: Corner) -> bool
+        requires { ⌜ Valid (cornerOf c) ⌝ }
+        ensures { λ r. ⌜ Decides r (AgreesWith (facesOf (now (self .entry))) (cornerOf c)) ⌝ }
+    {
+        match self.positions.find(&c.key) {
+            Some(position) => is_same(position, c.position),
+            None => self.keys.find(&c.position).is_none(),
+        }
+    }
+
+    // Whether the corner meets its rules alone, against the hull and against the corners before it.
+    fn is_allowed(&self, ring: &[Corner], i: usize) -> bool
+        requires { ⌜ i < length (now ring) ⌝ }
+        ensures { λ r. ⌜ Decides r (Allowed (facesOf (now (self .entry))) (take i (ringOf (now (ring .entry)))) (corner (now (ring .entry)) i)) ⌝ }
+    {
+        let c = ring[i];
+        if !is_key(c.key) {
+            return false;
+        }
+        if !is_inside(c.position) {
+            return false;
+        }
+        if !is_apart(ring, i) {
+            return false;
+        }
+        self.agrees(c)
+    }
+
+    // The key of the first corner that breaks a rule.
+    fn misfit(&self, ring: &[Corner]) -> Option<u32>
+        ensures { λ r. ⌜ BySome r (AllAllowed (facesOf (now (self .entry))) [] (ringOf (now (ring .entry)))) (λ k. FirstMisfit (facesOf (now (self .entry))) [] (ringOf (now (ring .entry))) k) ⌝ }
+    {
+        for i in 0..ring.len() {
+            if !self.is_allowed(ring, i) {
+                return Some(ring[i].key);
+            }
+        }
+        None
+    }
+}
