@@ -2,3 +2,5 @@ pub mod Props
 pub mod Empty
 pub mod Finds
 pub mod Allowed
+pub mod Edges
+pub mod Keys

@@ -70,10 +70,10 @@ edges-at (c ∷ cs) d i h = steps-at c cs c d i (omega arith) ∙ ap (λ x. (cor
 abbrev pub no-edge : Edge
 no-edge = (cornerOf blank, cornerOf blank)
 
-edge-in : (r : List StoredCorner) (i : ℕ) → i < length r → In (edge r i) (edges (ringOf r))
+pub edge-in : (r : List StoredCorner) (i : ℕ) → i < length r → In (edge r i) (edges (ringOf r))
 edge-in r i h = subst (λ e. In e (edges (ringOf r))) (edges-at r no-edge i h) (in-at (edges (ringOf r)) no-edge i (omega (arith, edges-length r)))
 
-edge-from : (r : List StoredCorner) (e : Edge) → In e (edges (ringOf r)) → (i : ℕ) × (i < length r) × (e ≡ edge r i)
+pub edge-from : (r : List StoredCorner) (e : Edge) → In e (edges (ringOf r)) → (i : ℕ) × (i < length r) × (e ≡ edge r i)
 edge-from r e h =
     let t = at-in (edges (ringOf r)) no-edge e h in
     let l : t .0 < length r = omega (arith, t .1, edges-length r) in

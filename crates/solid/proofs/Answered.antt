@@ -67,7 +67,7 @@ last-in : (b : List Corner) (c : Corner) → In c (b ++ c ∷ [])
 last-in b c = in-right c b (c ∷ []) (inl refl)
 
 module _ (fs : List Ring) where
-  allowed-valid : (b : List Corner) (r : Ring) → AllAllowed fs b r → (c : Corner) → In c r → Valid c
+  pub allowed-valid : (b : List Corner) (r : Ring) → AllAllowed fs b r → (c : Corner) → In c r → Valid c
   allowed-valid b [] h c i = absurd i
   allowed-valid b (d ∷ ds) h c (inl e) = subst Valid (sym e) (h .0 .valid)
   allowed-valid b (d ∷ ds) h c (inr i) = allowed-valid (b ++ d ∷ []) ds (h .1) c i
@@ -78,14 +78,14 @@ module _ (fs : List Ring) where
       h .0 .once (subst (λ t. In t (map (λ (c : Corner). c .key) b)) (sym k ∙ ap (λ (c : Corner). c .key) p) (in-map (λ (c : Corner). c .key) d b j))
   allowed-new b (e ∷ es) h c d (inr i) j k = allowed-new (b ++ e ∷ []) es (h .1) c d i (in-left d b (e ∷ []) j) k
 
-  allowed-keys : (b : List Corner) (r : Ring) → AllAllowed fs b r → Distinct (map (λ (c : Corner). c .key) r)
+  pub allowed-keys : (b : List Corner) (r : Ring) → AllAllowed fs b r → Distinct (map (λ (c : Corner). c .key) r)
   allowed-keys b [] h = tt
   allowed-keys b (c ∷ cs) h = (
     λ i. (let k = key-in (c .key) cs i in allowed-new (b ++ c ∷ []) cs (h .1) (k .0) c (k .1) (last-in b c) (sym (k .2))),
     allowed-keys (b ++ c ∷ []) cs (h .1),
   )
 
-  agree-before : (b : List Corner) (r : Ring) → AllAllowed fs b r → (c d : Corner) → In c r → In d b ⊎ In d (corners fs) → Agree c d
+  pub agree-before : (b : List Corner) (r : Ring) → AllAllowed fs b r → (c d : Corner) → In c r → In d b ⊎ In d (corners fs) → Agree c d
   agree-before b [] h c d i j = absurd i
   agree-before b (e ∷ es) h c d (inl p) j = subst (λ t. Agree t d) (sym p) (h .0 .agree d j)
   agree-before b (e ∷ es) h c d (inr i) j =

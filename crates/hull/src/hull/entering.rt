@@ -1,19 +1,22 @@
 // The tests of entering a ring, each decided exactly.
-ghost use Prim.Native.Nat.{_<_, _≤_, _^_};
+ghost use Prim.Native.Nat.{_+_, _<_, _≤_, _^_};
 ghost use Rattle.hull.specs.Meaning.{facesOf};
-ghost use Rattle.hull.specs.Tests.{Apart, AgreesWith};
+ghost use Rattle.hull.specs.Tests.{Apart, AgreesWith, FirstRepeated};
 ghost use Rattle.ring.specs.Places.{corner};
 ghost use Rattle.solid.specs.Corners.{cornerOf, ringOf};
 ghost use Rattle.solid.specs.Entering.{Allowed, AllAllowed, FirstMisfit};
-ghost use Rattle.solid.specs.Rules.{Valid};
+ghost use Rattle.solid.specs.Rules.{Valid, Tidy, Fresh, Limits, keyCount};
 ghost use Rattle.std.specs.Options.{Cases as BySome};
 ghost use Rattle.std.specs.Orderings.{Decides};
 ghost use lib.ListN.{length, take};
-ghost use mathlib.Core.List.{[]};
+ghost use mathlib.Core.List.{[], _∷_, _++_};
+ghost use mathlib.Core.Path.{_≡_};
 use crate::hull::Hull;
+use ring::following;
 use solid::Corner;
 use space::vector::is_inside;
 use space::vector::is_same;
+use table::rank::EdgeRank;
 use table::rank::KeyRank;
 use table::rank::PositionRank;
 
@@ -77,5 +80,48 @@ impl Hull {
             }
         }
         None
+    }
+
+    // The keys of the ring's first directed edge that is in the hull.
+    fn repeated(&self, ring: &[Corner]) -> Option<(u32, u32)>
+        requires { ⌜ AllAllowed (facesOf (now self)) [] (ringOf (now ring)) ⌝ }
+        ensures { λ r. ⌜ BySome r (Fresh (facesOf (now (self .entry))) (ringOf (now (ring .entry)))) (λ p. FirstRepeated (facesOf (now (self .entry))) (ringOf (now (ring .entry))) p) ⌝ }
+    {
+        let k = ring.len();
+        for i in 0..k {
+            let edge = (ring[i].key, ring[following(i, k)].key);
+            if self.edges.find(&edge).is_some() {
+                return Some(edge);
+            }
+        }
+        None
+    }
+
+    // How many keys the ring brings that the hull has not.
+    fn new_keys(&self, ring: &[Corner]) -> usize
+        requires { ⌜ Tidy (ringOf (now ring)) ⌝ }
+        ensures { λ r. ⌜ (keyCount (facesOf (now (self .entry)) ++ ringOf (now (ring .entry)) ∷ []) ≡ keyCount (facesOf (now (self .entry))) + r) × (r ≤ 64) ⌝ }
+    {
+        let mut count = 0;
+        for c in ring {
+            if self.positions.find(&c.key).is_none() {
+                count += 1;
+            }
+        }
+        count
+    }
+
+    // Whether the three limits still hold with this ring.
+    fn has_room(&self, ring: &[Corner]) -> bool
+        requires { ⌜ Tidy (ringOf (now ring)) ⌝ }
+        ensures { λ r. ⌜ Decides r (Limits (facesOf (now (self .entry)) ++ ringOf (now (ring .entry)) ∷ [])) ⌝ }
+    {
+        if self.faces.len() >= 512 {
+            return false;
+        }
+        if self.faces.corner_count() + ring.len() > 3072 {
+            return false;
+        }
+        self.positions.len() + self.new_keys(ring) <= 1024
     }
 }
