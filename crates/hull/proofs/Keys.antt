@@ -37,11 +37,15 @@ eqb-turn m n = go (eqb m n) (eqb n m) refl refl
     go false true p q = absurd (true≢false (sym (eq-eqb m n (sym (eqb-true n m q))) ∙ p))
     go false false p q = refl
 
-pub found-number : {X V : Type 0} (f : X → ℕ) (g : X → V) (xs : List X) (q : ℕ) → isSome (lookup (map (λ x. (f x, g x)) xs) q) ≡ has eqb q (map f xs)
-found-number f g [] q = refl
-found-number f g (x ∷ xs) q =
-    elim (eqb (f x) q) as (λ b. isSome (cond b (Some (g x)) (lookup (map (λ x. (f x, g x)) xs) q)) ≡ (b || has eqb q (map f xs))) [ true ↦ refl | false ↦ found-number f g xs q ]
-    ∙ ap (λ b. b || has eqb q (map f xs)) (eqb-turn (f x) q)
+pub found-pair : {V : Type 0} (ps : List (ℕ × V)) (q : ℕ) → isSome (lookup ps q) ≡ has eqb q (map (λ p. p .0) ps)
+found-pair [] q = refl
+found-pair (p ∷ ps) q =
+    elim (eqb (p .0) q) as (λ b. isSome (cond b (Some (p .1)) (lookup ps q)) ≡ (b || has eqb q (map (λ p. p .0) ps))) [ true ↦ refl | false ↦ found-pair ps q ]
+    ∙ ap (λ b. b || has eqb q (map (λ p. p .0) ps)) (eqb-turn (p .0) q)
+
+pub firsts : {X V : Type 0} (f : X → ℕ) (g : X → V) (xs : List X) → map (λ (p : ℕ × V). p .0) (map (λ x. (f x, g x)) xs) ≡ map f xs
+firsts f g [] = refl
+firsts f g (x ∷ xs) = ap (λ t. f x ∷ t) (firsts f g xs)
 
 pub keys-held : (f : Faces) → map (λ (c : Corner). c .key) (corners (rings f)) ≡ map (λ (s : StoredCorner). s .key) (storedCorners f)
 keys-held f = ap (map (λ (c : Corner). c .key)) (corners-held f) ∙ stored (storedCorners f)
@@ -51,7 +55,9 @@ keys-held f = ap (map (λ (c : Corner). c .key)) (corners-held f) ∙ stored (st
     stored (s ∷ ss) = ap (λ t. s .key ∷ t) (stored ss)
 
 pub found-key : (f : Faces) (q : ℕ) → isSome (lookup (keyPairs (storedCorners f)) q) ≡ has eqb q (map (λ (c : Corner). c .key) (corners (rings f)))
-found-key f q = found-number (λ (s : StoredCorner). s .key) (λ s. s .position) (storedCorners f) q ∙ ap (has eqb q) (sym (keys-held f))
+found-key f q =
+    found-pair (keyPairs (storedCorners f)) q
+    ∙ ap (has eqb q) (firsts (λ (s : StoredCorner). s .key) (λ s. s .position) (storedCorners f) ∙ sym (keys-held f))
 
 -- ---- different numbers, put to others one by one
 module _ (ks ns : List ℕ) (once : Distinct ns) where
@@ -99,10 +105,6 @@ key-at (s ∷ r) zero l = refl
 key-at (s ∷ r) (suc i) l = key-at r i (omega arith)
 
 -- ---- sizes of what is held
-pub firsts : {X V : Type 0} (f : X → ℕ) (g : X → V) (xs : List X) → map (λ (p : ℕ × V). p .0) (map (λ x. (f x, g x)) xs) ≡ map f xs
-firsts f g [] = refl
-firsts f g (x ∷ xs) = ap (λ t. f x ∷ t) (firsts f g xs)
-
 pub key-size : (f : Faces) → kinds eqb (map (λ p. p .0) (keyPairs (storedCorners f))) ≡ keyCount (rings f)
 key-size f = ap (kinds eqb) (firsts (λ (s : StoredCorner). s .key) (λ s. s .position) (storedCorners f) ∙ sym (keys-held f))
 

@@ -4,3 +4,5 @@ pub mod Finds
 pub mod Allowed
 pub mod Edges
 pub mod Keys
+pub mod Says
+pub mod Grows

@@ -1,4 +1,5 @@
 pub mod Index
 pub mod Meaning
 pub mod Tests
+pub mod Growth
 pub mod Law

@@ -5,6 +5,7 @@ use table::Table;
 
 mod calls;
 mod entering;
+mod growth;
 
 #[derive(Drop)]
 pub struct Hull {

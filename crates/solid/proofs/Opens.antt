@@ -17,7 +17,7 @@ module _ {X : Type 0} where
   kept-same p q [] h = refl
   kept-same p q (x ∷ xs) h = ap₂ (λ b l. cond b (x ∷ l) l) (h x (inl refl)) (kept-same p q xs (λ y i. h y (inr i)))
 
-  kept-append : (p : X → Bool) (xs ys : List X) → kept-by p (xs ++ ys) ≡ kept-by p xs ++ kept-by p ys
+  pub kept-append : (p : X → Bool) (xs ys : List X) → kept-by p (xs ++ ys) ≡ kept-by p xs ++ kept-by p ys
   kept-append p [] ys = refl
   kept-append p (x ∷ xs) ys = elim (p x) as (λ b. cond b (x ∷ kept-by p (xs ++ ys)) (kept-by p (xs ++ ys)) ≡ cond b (x ∷ kept-by p xs) (kept-by p xs) ++ kept-by p ys) [
     | true ↦ ap (λ l. x ∷ l) (kept-append p xs ys)

@@ -1,7 +1,7 @@
 // The tests of entering a ring, each decided exactly.
 ghost use Prim.Native.Nat.{_+_, _<_, _≤_, _^_};
 ghost use Rattle.hull.specs.Meaning.{facesOf};
-ghost use Rattle.hull.specs.Tests.{Apart, AgreesWith, FirstRepeated};
+ghost use Rattle.hull.specs.Tests.{Apart, AgreesWith, FirstRepeated, Tested};
 ghost use Rattle.ring.specs.Places.{corner};
 ghost use Rattle.solid.specs.Corners.{cornerOf, ringOf};
 ghost use Rattle.solid.specs.Entering.{Allowed, AllAllowed, FirstMisfit};
@@ -12,7 +12,11 @@ ghost use lib.ListN.{length, take};
 ghost use mathlib.Core.List.{[], _∷_, _++_};
 ghost use mathlib.Core.Path.{_≡_};
 use crate::hull::Hull;
+use fault::shape::ShapeFault;
 use ring::following;
+use ring::is_planar;
+use ring::is_simple;
+use ring::normal;
 use solid::Corner;
 use space::vector::is_inside;
 use space::vector::is_same;
@@ -123,5 +127,32 @@ impl Hull {
             return false;
         }
         self.positions.len() + self.new_keys(ring) <= 1024
+    }
+
+    // The tests in order: D of the ring, or the fault of the first test that fails.
+    pub(super) fn test(&self, ring: &[Corner]) -> Result<[i64; 3], ShapeFault>
+        ensures { λ r. ⌜ Tested (facesOf (now (self .entry))) (ringOf (now (ring .entry))) r ⌝ }
+    {
+        let face = self.faces.len() + 1;
+        if ring.len() < 3 || ring.len() > 64 {
+            return Err(ShapeFault::CornerCount { face });
+        }
+        if let Some(key) = self.misfit(ring) {
+            return Err(ShapeFault::Corner { face, key });
+        }
+        let d = normal(ring);
+        if !is_planar(ring, d) {
+            return Err(ShapeFault::NotPlanar { face });
+        }
+        if !is_simple(ring) {
+            return Err(ShapeFault::Crossing { face });
+        }
+        if let Some((from, to)) = self.repeated(ring) {
+            return Err(ShapeFault::EdgeTwice { face, from, to });
+        }
+        if !self.has_room(ring) {
+            return Err(ShapeFault::Full { face });
+        }
+        Ok(d)
     }
 }
