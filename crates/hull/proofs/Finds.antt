@@ -77,6 +77,12 @@ rank-tells p q h k e = let s = position-same p q (near p h) (near q k) e in V3-p
 rank-of : (p q : List ℤ) → vector p ≡ vector q → positionRank p ≡ positionRank q
 rank-of p q e = ap (λ v. pairRank (pairRank (fromLeast (v .x), fromLeast (v .y)), fromLeast (v .z))) e
 
+-- a position that is held is in range
+pub position-inside : (f : Faces) → Consistent (rings f) → (s : StoredCorner) → In s (storedCorners f) → Inside (vector (s .position))
+position-inside f h s i =
+    let home = ring-of (cornerOf s) (rings f) (held-in f s i) in
+    h .proper (home .0) (home .1) .tidy .valid (cornerOf s) (home .2) .position
+
 -- ---- whether a corner agrees with the faces
 module _ (f : Faces) (consistent : Consistent (rings f)) (c : StoredCorner) where
   -- its key is there, at the position p
@@ -99,10 +105,10 @@ module _ (f : Faces) (consistent : Consistent (rings f)) (c : StoredCorner) wher
   agrees-none valid absent (Some k) found =
       let s = lookup-in (λ (s : StoredCorner). positionRank (s .position)) (λ s. s .key) (storedCorners f) (positionRank (c .position)) k (sym found) in
       let d-in = held-in f (s .0) (s .1) in
-      let inside = ring-of (cornerOf (s .0)) (rings f) d-in in (
+      let inside = position-inside f consistent (s .0) (s .1) in (
         λ t. absurd (true≢false (sym t)),
         λ agree. absurd (lookup-out (λ (s : StoredCorner). s .key) (λ s. s .position) (storedCorners f) (c .key) absent (s .0) (s .1)
-            (sym (agree (cornerOf (s .0)) d-in .1 (sym (rank-tells (s .0 .position) (c .position) (consistent .proper (inside .0) (inside .1) .tidy .valid (cornerOf (s .0)) (inside .2) .position) (valid .position) (s .2)))))),
+            (sym (agree (cornerOf (s .0)) d-in .1 (sym (rank-tells (s .0 .position) (c .position) inside (valid .position) (s .2)))))),
       )
   agrees-none valid absent None found = (
     λ t d i.

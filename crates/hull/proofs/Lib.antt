@@ -6,3 +6,4 @@ pub mod Edges
 pub mod Keys
 pub mod Says
 pub mod Grows
+pub mod Grown

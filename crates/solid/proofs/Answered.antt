@@ -141,6 +141,11 @@ enter-taken fs r h =
       limits = s18 .0;
     }
 
+pub taken-allowed : (fs : List Ring) (r : Ring) → Enter-says fs r (Ok tt) → AllAllowed fs [] r
+taken-allowed fs r h =
+    let s14 = passed (λ e. subst Taken (e .0) tt) h in
+    passed (λ e. subst Taken (e .2 .0) tt) (s14 .1) .0
+
 pub enterable-taken : (fs : List Ring) (r : Ring) → Enterable fs r → Enter-says fs r (Ok tt)
 enterable-taken fs r h =
     let p = h .proper in

@@ -70,6 +70,12 @@ start-inside (c ∷ cs) h = h .valid c (inl refl) .position
 pub height-near : (r : Ring) → Tidy r → Near (length r * (75 * 10 ^ 13)) (dot (start r) (D r))
 height-near r h = record { abs = le-trans (within (start-inside r h ∷ᵛ spans-within (edges r) (ring-ends r h) ∷ᵛ done) (dotᴱ 𝐚 𝐛)) (omega (arith, edges-length r)) }
 
+pub D-large : (r : Ring) → Tidy r → Large (D r)
+D-large r h = let w = spans-within (edges r) (ring-ends r h) in record { x = near (D r .x) (w .x); y = near (D r .y) (w .y); z = near (D r .z) (w .z) }
+  where
+    near : (k : ℤ) → Near (length (edges r) * (5 * 10 ^ 9)) k → Near (2 * 10 ^ 13) k
+    near k n = record { abs = omega (arith, n .abs, edges-length r, h .sized .1) }
+
 base-near : (fs : List Ring) → ((r : Ring) → In r fs → Tidy r) → Near (length (allEdges fs) * (75 * 10 ^ 13)) (base fs)
 unfolding base
 base-near [] h = record { abs = omega arith }

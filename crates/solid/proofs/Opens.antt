@@ -4,7 +4,7 @@ use mathlib.Core.Path.{_≡_, refl, sym, _∙_, ap, ap₂, subst}
 use mathlib.Core.Logic.{_⊎_, inl, inr}
 use mathlib.Core.Bool.{Bool, true, false, not, cond, _||_, true≢false}
 use mathlib.Core.List.{List, [], _∷_, _++_, append-nil, append-assoc}
-use Prim.Native.Nat.{ℕ, suc, _+_, _*_}
+use Prim.Native.Nat.{ℕ, suc, _+_, _*_, _≤_}
 use native.Mathlib.Omega.{arith}
 use lib.ListN.{length, length-append}
 use Rattle.std.specs.shelf.Lists.{kept-by}
@@ -23,6 +23,10 @@ module _ {X : Type 0} where
     | true ↦ ap (λ l. x ∷ l) (kept-append p xs ys)
     | false ↦ kept-append p xs ys
   ]
+
+  pub kept-short : (p : X → Bool) (xs : List X) → length (kept-by p xs) ≤ length xs
+  kept-short p [] = omega arith
+  kept-short p (x ∷ xs) = let h = kept-short p xs in elim (p x) as (λ b. length (cond b (x ∷ kept-by p xs) (kept-by p xs)) ≤ suc (length xs)) [ true ↦ omega arith | false ↦ omega arith ]
 
   -- a test that also drops y, which the other keeps, keeps one element less
   kept-less : (p q : X → Bool) (y : X) (xs : List X) → Distinct xs → In y xs → p y ≡ true → q y ≡ false → ((x : X) → In x xs → (x ≡ y → ⊥) → q x ≡ p x) → length (kept-by q xs) + 1 ≡ length (kept-by p xs)

@@ -4,14 +4,20 @@ ghost use Rattle.hull.specs.Growth.{Grows, Reverses};
 ghost use Rattle.hull.specs.Index.{keyPairs, positionPairs, edgePairs};
 ghost use Rattle.hull.specs.Meaning.{facesOf};
 ghost use Rattle.solid.specs.Corners.{ringOf};
-ghost use Rattle.solid.specs.Entering.{AllAllowed};
-ghost use Rattle.solid.specs.Faces.{edges as edges-of};
+ghost use Rattle.solid.specs.Entering.{AllAllowed, Enter-says};
+ghost use Rattle.solid.specs.Faces.{edges as edges-of, D as D-of};
+ghost use Rattle.std.specs.declared.result.Result.the-variants.{Ok};
+ghost use Rattle.algebra.specs.Vector.{vector};
 ghost use Rattle.table.specs.Rank.{pairRank, positionRank};
 ghost use lib.ListN.{length};
-ghost use mathlib.Core.List.{[]};
+ghost use mathlib.Core.List.{[], _∷_, _++_};
+ghost use mathlib.Core.Path.{_≡_};
 use crate::hull::Hull;
 use ring::following;
 use solid::Corner;
+use space::vector::dot;
+use space::vector::plus;
+use space::vector::wide;
 use table::Table;
 use table::rank::EdgeRank;
 use table::rank::KeyRank;
@@ -53,5 +59,23 @@ impl Hull {
             }
         }
         count
+    }
+
+    // Puts in a ring that has passed the tests, with its D.
+    pub(super) fn put(&mut self, ring: &[Corner], d: [i64; 3])
+        requires passed { ⌜ Enter-says (facesOf (now self)) (ringOf (now ring)) (Ok tt) ⌝ }
+        requires normal { ⌜ vector d ≡ D-of (ringOf (now ring)) ⌝ }
+        ensures { λ _. ⌜ facesOf (now (self .exit)) ≡ facesOf (now (self .entry)) ++ ringOf (now (ring .entry)) ∷ [] ⌝ }
+    {
+        let first = self.faces.corner_count();
+        let reverses = self.reverses(ring);
+        let height = dot(wide(ring[0].position), d);
+        add_corners(&mut self.positions, &mut self.keys, ring);
+        add_edges(&mut self.edges, first, ring);
+        let _ = self.faces.push(ring);
+        self.open_edges = self.open_edges + ring.len() - 2 * reverses;
+        self.volume += height;
+        let sum = plus(self.edge_sum, d);
+        self.edge_sum = sum;
     }
 }
