@@ -93,10 +93,10 @@ module _ (f : Faces) (consistent : Consistent (rings f)) (c : StoredCorner) wher
       let d-in = held-in f (k .0) (k .1) in
       let d-at : d .position ≡ vector p = ap vector (k .3) in (
         λ t e i. (
-          let a = consistent .agree d e d-in i in
-          let here = sym (same .0 t) in
-          (λ key. here ∙ sym d-at ∙ a .0 (k .2 ∙ key), λ place. sym (k .2) ∙ a .1 (d-at ∙ sym here ∙ place))
-        ),
+            let a = consistent .agree d e d-in i in
+            let here = sym (same .0 t) in
+            (λ key. here ∙ sym d-at ∙ a .0 (k .2 ∙ key), λ place. sym (k .2) ∙ a .1 (d-at ∙ sym here ∙ place))
+            ),
         λ agree. same .1 (sym d-at ∙ sym (agree d d-in .0 (sym (k .2)))),
       )
 

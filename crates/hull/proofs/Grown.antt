@@ -105,7 +105,7 @@ module _ (f g : Faces) (ring : List StoredCorner) (positions positions′ : Tabl
     edges-grown =
         let first : 0 + length (allEdges (rings f)) ≡ length (storedCorners f) = omega (arith, edge-total f) in
         let whole : edgePairs 0 (allEdges (rings f)) ++ edgePairs (length (storedCorners f)) (edges (ringOf ring)) ≡ edgePairs 0 (allEdges (rings g)) =
-            sym (ap (edgePairs 0) all-edges ∙ edgePairs-append 0 (allEdges (rings f)) (edges (ringOf ring)) ∙ ap (λ n. edgePairs 0 (allEdges (rings f)) ++ edgePairs n (edges (ringOf ring))) first) in
+        sym (ap (edgePairs 0) all-edges ∙ edgePairs-append 0 (allEdges (rings f)) (edges (ringOf ring)) ∙ ap (λ n. edgePairs 0 (allEdges (rings f)) ++ edgePairs n (edges (ringOf ring))) first) in
         subst (Tracks pairRank edges′) whole (e .0 (edgePairs 0 (allEdges (rings f))) (kept .edges-held)
         (omega (arith, ap (λ (ps : List (ℕ × ℕ)). kinds eqb (map (λ p. p .0) ps)) whole, kinds-most eqb (map (λ p. p .0) (edgePairs 0 (allEdges (rings g)))), edges-length-of 0 (allEdges (rings g)), consistent-grown .limits .edges, kept .table-room .2)))
 

@@ -24,7 +24,11 @@ use table::rank::KeyRank;
 use table::rank::PositionRank;
 
 // Puts the keys and positions of the ring's corners into the tables.
-pub(super) fn add_corners(positions: &mut Table<u32, [i32; 3]>, keys: &mut Table<[i32; 3], u32>, ring: &[Corner])
+pub(super) fn add_corners(
+    positions: &mut Table<u32, [i32; 3]>,
+    keys: &mut Table<[i32; 3], u32>,
+    ring: &[Corner],
+)
     ensures positions { λ _. ⌜ Grows (λ n. n) (now (positions .entry)) (keyPairs (now (ring .entry))) (now (positions .exit)) ⌝ }
     ensures keys { λ _. ⌜ Grows positionRank (now (keys .entry)) (positionPairs (now (ring .entry))) (now (keys .exit)) ⌝ }
 {
@@ -54,7 +58,9 @@ impl Hull {
         let k = ring.len();
         let mut count = 0;
         for i in 0..k {
-            if self.edges.find(&(ring[following(i, k)].key, ring[i].key)).is_some() {
+            if self.edges
+                .find(&(ring[following(i, k)].key, ring[i].key))
+                .is_some() {
                 count += 1;
             }
         }

@@ -30,7 +30,7 @@ loop-c-again c =
     let old : ℕ = kinds eqb (ks ++ take i ns) in
     let there : has eqb _ ks ≡ not (c .is-none .result) = sym (found-key (h .faces) _) ∙ sym (ap isSome (c .find .ensures (keyPairs (storedCorners (h .faces))) (kept-out (h .kept) .positions-held .0))) ∙ c .is-none .ensures in
     let more : kinds eqb (ks ++ take (i + 1) ns) ≡ cond (not (c .is-none .result)) old (suc old) =
-        kinds-more ks ns (c .pre .keys) i l ∙ ap (λ k. cond (has eqb k ks) old (suc old)) (key-at r i (c .loop-c-test .taken)) ∙ ap (λ b. cond b old (suc old)) there in
+    kinds-more ks ns (c .pre .keys) i l ∙ ap (λ k. cond (has eqb k ks) old (suc old)) (key-at r i (c .loop-c-test .taken)) ∙ ap (λ b. cond b old (suc old)) there in
     elim (c .if-is-none .came) [
       | then-is-none w ↦ (let e = more ∙ ap (λ b. cond (not b) old (suc old)) (w .if-is-none .taken) in (omega (arith, e, w .count-is, c .loop-c .inv .0), omega (arith, w .count-is, c .loop-c .inv .1)))
       | else-is-none w ↦ (let e = more ∙ ap (λ b. cond (not b) old (suc old)) (w .if-is-none .left) in (omega (arith, e, w .count-is, c .loop-c .inv .0), omega (arith, w .count-is, c .loop-c .inv .1)))

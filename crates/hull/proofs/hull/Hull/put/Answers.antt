@@ -99,7 +99,7 @@ pub sub-self : need.sub-self
 sub-self c =
     let h = c .args .self .now in
     let law = opens-grown (h .faces) (c .push .last .self) (c .args .ring .now) (h .positions) (c .add-corners .last .positions) (h .keys) (c .add-corners .last .keys) (h .edges) (c .add-edges .last .edges) (h .«open_edges») (h .volume) (h .«edge_sum») (c .push .result)
-        (kept-out (h .kept)) (may (need.at·sub-self c .Start)) (c .push .ensures) (c .add-corners .ensures .positions) (c .add-corners .ensures .keys) (rw (sym (c .corner-count-first .ensures)) (c .add-edges .ensures)) (c .reverses-reverses .result) (c .reverses-reverses .ensures) in
+    (kept-out (h .kept)) (may (need.at·sub-self c .Start)) (c .push .ensures) (c .add-corners .ensures .positions) (c .add-corners .ensures .keys) (rw (sym (c .corner-count-first .ensures)) (c .add-edges .ensures)) (c .reverses-reverses .result) (c .reverses-reverses .ensures) in
     omega (arith, law)
 
 pub ghost-self : need.ghost-self
@@ -107,8 +107,7 @@ ghost-self c =
     let h = c .args .self .now in
     let start-of = need.at·ghost-self c .Start in
     let law = opens-grown (h .faces) (c .push .last .self) (c .args .ring .now) (h .positions) (c .add-corners .last .positions) (h .keys) (c .add-corners .last .keys) (h .edges) (c .add-edges .last .edges) (h .«open_edges») (h .volume) (h .«edge_sum») (c .push .result)
-        (kept-out (h .kept)) (may start-of) (c .push .ensures) (c .add-corners .ensures .positions) (c .add-corners .ensures .keys) (rw (sym (c .corner-count-first .ensures)) (c .add-edges .ensures)) (c .reverses-reverses .result) (c .reverses-reverses .ensures) in
-    (
+    (kept-out (h .kept)) (may start-of) (c .push .ensures) (c .add-corners .ensures .positions) (c .add-corners .ensures .keys) (rw (sym (c .corner-count-first .ensures)) (c .add-edges .ensures)) (c .reverses-reverses .result) (c .reverses-reverses .ensures) in (
       ∣ grown (h .faces) (c .push .last .self) (c .args .ring .now) (h .positions) (c .add-corners .last .positions) (h .keys) (c .add-corners .last .keys) (h .edges) (c .add-edges .last .edges) (h .«open_edges») (h .volume) (h .«edge_sum») (c .push .result)
           (kept-out (h .kept)) (may start-of) (c .push .ensures) (c .add-corners .ensures .positions) (c .add-corners .ensures .keys) (rw (sym (c .corner-count-first .ensures)) (c .add-edges .ensures)) (c .reverses-reverses .result) _ _ _ (c .reverses-reverses .ensures)
           (omega (arith, law))

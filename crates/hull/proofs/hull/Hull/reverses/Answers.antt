@@ -32,16 +32,16 @@ loop-i-again c =
     let l : i < length es = omega (arith, edges-length r) in
     let test : Edge → Bool = λ e. has sameEdge (flip e) (allEdges (facesOf h)) in
     let here : test (getD es i no-edge) ≡ c .is-some .result =
-        ap test (edges-at r no-edge i (c .loop-i-test .taken))
-        ∙ sym (found-reverse (facesOf h) (k .consistent) (ringOf r) (c .pre) (edge r i) (edge-in r i (c .loop-i-test .taken)))
-        ∙ ap (λ n. isSome (lookup (edgePairs 0 (allEdges (facesOf h))) (pairRank (corner r n .key, corner r i .key)))) (sym (c .following .ensures .is))
-        ∙ ap isSome (sym (c .find .ensures (edgePairs 0 (allEdges (facesOf h))) (k .edges-held .0)))
-        ∙ sym (c .is-some .ensures) in
+    ap test (edges-at r no-edge i (c .loop-i-test .taken))
+    ∙ sym (found-reverse (facesOf h) (k .consistent) (ringOf r) (c .pre) (edge r i) (edge-in r i (c .loop-i-test .taken)))
+    ∙ ap (λ n. isSome (lookup (edgePairs 0 (allEdges (facesOf h))) (pairRank (corner r n .key, corner r i .key)))) (sym (c .following .ensures .is))
+    ∙ ap isSome (sym (c .find .ensures (edgePairs 0 (allEdges (facesOf h))) (k .edges-held .0)))
+    ∙ sym (c .is-some .ensures) in
     let more : length (kept-by test (take (i + 1) es)) ≡ length (kept-by test (take i es)) + length (cond (c .is-some .result) (getD es i no-edge ∷ []) []) =
-        ap (λ t. length (kept-by test t)) (take-more es i no-edge l)
-        ∙ ap length (kept-append test (take i es) (getD es i no-edge ∷ []))
-        ∙ length-append (kept-by test (take i es)) (cond (test (getD es i no-edge)) (getD es i no-edge ∷ []) [])
-        ∙ ap (λ b. length (kept-by test (take i es)) + length (cond b (getD es i no-edge ∷ []) [])) here in
+    ap (λ t. length (kept-by test t)) (take-more es i no-edge l)
+    ∙ ap length (kept-append test (take i es) (getD es i no-edge ∷ []))
+    ∙ length-append (kept-by test (take i es)) (cond (test (getD es i no-edge)) (getD es i no-edge ∷ []) [])
+    ∙ ap (λ b. length (kept-by test (take i es)) + length (cond b (getD es i no-edge ∷ []) [])) here in
     elim (c .if-is-some .came) [
       | then-is-some w ↦ (let e = more ∙ ap (λ b. length (kept-by test (take i es)) + length (cond b (getD es i no-edge ∷ []) [])) (w .if-is-some .taken) in (omega (arith, e, w .count-is, c .loop-i .inv .0), omega (arith, w .count-is, c .loop-i .inv .1)))
       | else-is-some w ↦ (let e = more ∙ ap (λ b. length (kept-by test (take i es)) + length (cond b (getD es i no-edge ∷ []) [])) (w .if-is-some .left) in (omega (arith, e, w .count-is, c .loop-i .inv .0), omega (arith, w .count-is, c .loop-i .inv .1)))

@@ -20,7 +20,7 @@ loop-i-again c =
     let i = c .loop-i .i in
     let l : i < length (edges (ringOf r)) = omega (arith, edges-length r) in
     let here : edgeRank (getD (edges (ringOf r)) i no-edge) ≡ pairRank (corner r i .key, corner r (c .following .result) .key) =
-        ap edgeRank (edges-at r no-edge i (c .loop-i-test .taken)) ∙ ap (λ n. pairRank (corner r i .key, corner r n .key)) (sym (c .following .ensures .is)) in
+    ap edgeRank (edges-at r no-edge i (c .loop-i-test .taken)) ∙ ap (λ n. pairRank (corner r i .key, corner r n .key)) (sym (c .following .ensures .is)) in
     subst (λ (ps : List (ℕ × ℕ)). Grows pairRank (c .args .edges .now) ps (c .insert .last .self)) (sym (edgePairs-more (c .args .first) (edges (ringOf r)) i no-edge l))
     (grows-more pairRank (c .args .edges .now) (c .loop-i .edges) (c .insert .last .self) (edgePairs (c .args .first) (take i (edges (ringOf r)))) (edgeRank (getD (edges (ringOf r)) i no-edge)) (c .args .first + i) (c .insert .result) (c .loop-i .inv)
     (rw here (c .insert .ensures)))

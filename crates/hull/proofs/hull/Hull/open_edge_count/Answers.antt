@@ -1,0 +1,6 @@
+use Rattle.hull.proofs.Laws.{asked}
+use Rattle.hull.proofs.Props.{kept-out}
+use Rattle.hull.proofs.hull.Hull.open_edge_count.Needs as need
+
+pub returns : need.returns
+returns c = let h = c .args .self .now in record { value = kept-out (h .kept) .open-count; law = asked h }
