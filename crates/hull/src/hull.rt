@@ -6,6 +6,8 @@ use table::Table;
 mod calls;
 mod entering;
 mod growth;
+mod limits;
+mod questions;
 
 #[derive(Drop)]
 pub struct Hull {

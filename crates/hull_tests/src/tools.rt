@@ -10,23 +10,23 @@ use std::test::*;
 
 // A ring, and the fault that it must give, if any.
 #[derive(Clone, Copy)]
-pub struct Case<'a> {
+pub(crate) struct Case<'a> {
     pub ring: &'a [Corner],
     pub fault: Option<ShapeFault>,
 }
 
-pub fn good(ring: &[Corner]) -> Case<'_> {
+pub(crate) fn good(ring: &[Corner]) -> Case<'_> {
     Case { ring, fault: None }
 }
 
-pub fn bad(ring: &[Corner], fault: ShapeFault) -> Case<'_> {
+pub(crate) fn bad(ring: &[Corner], fault: ShapeFault) -> Case<'_> {
     Case {
         ring,
         fault: Some(fault),
     }
 }
 
-pub fn corner(key: u32, x: i32, y: i32, z: i32) -> Corner {
+pub(crate) fn corner(key: u32, x: i32, y: i32, z: i32) -> Corner {
     Corner {
         key,
         position: [x, y, z],
@@ -34,7 +34,7 @@ pub fn corner(key: u32, x: i32, y: i32, z: i32) -> Corner {
 }
 
 // The ring of `count` corners on a parabola at the height z, keys from `first` on, every `step`-th one.
-pub fn plate(
+pub(crate) fn plate(
     heap: Global,
     first: u16,
     z: u8,
@@ -63,7 +63,7 @@ fn counts(hull: &Hull) -> (usize, usize, usize, usize, i64) {
 }
 
 // Enters a ring; a fault must be the expected one, and leave the counts.
-pub fn enter(hull: &mut Hull, case: Case<'_>) -> Result<(), Fail> {
+pub(crate) fn enter(hull: &mut Hull, case: Case<'_>) -> Result<(), Fail> {
     let before = counts(hull);
     let Some(fault) = case.fault else {
         return check_eq(hull.enter(case.ring), Ok(()));
@@ -72,7 +72,7 @@ pub fn enter(hull: &mut Hull, case: Case<'_>) -> Result<(), Fail> {
     check(counts(hull) == before)
 }
 
-pub fn enter_all(hull: &mut Hull, cases: &[Case<'_>]) -> Result<(), Fail> {
+pub(crate) fn enter_all(hull: &mut Hull, cases: &[Case<'_>]) -> Result<(), Fail> {
     for case in cases {
         enter(hull, *case)?;
     }

@@ -64,7 +64,7 @@ impl<K: Rank + Drop, V: Copy> Table<K, V> {
         let Err(at) = search(self.entries.as_slice(), &key) else {
             return true;
         };
-        if self.entries.len() == self.entries.capacity() {
+        if self.len() == self.entries.capacity() {
             return false;
         }
         self.entries.insert(at, Entry { key, value }).is_ok()

@@ -38,8 +38,8 @@ impl Faces {
     pub fn push(&mut self, ring: &[Corner]) -> bool
         ensures { λ r. ⌜ Pushed (now (self .entry)) (now (ring .entry)) (now (self .exit)) r ⌝ }
     {
-        let end = self.corners.len() + ring.len();
-        if self.ends.len() == self.ends.capacity() || self.corners.capacity() < end {
+        let end = self.corner_count() + ring.len();
+        if self.len() == self.ends.capacity() || self.corners.capacity() < end {
             return false;
         }
         self.corners.extend_from_slice(ring).unwrap();

@@ -1,17 +1,15 @@
-// The calls on a hull. None asks anything of its caller, and none but `new` can lack memory.
-ghost use Rattle.algebra.specs.Vector.{vector};
+// Making, entering and clearing. No call asks anything of its caller, and none but `new` can lack memory.
 ghost use Rattle.hull.specs.Law.{CountsFromEvery, Law, Entered};
-ghost use Rattle.hull.specs.Meaning.{facesOf, answeredVolume, answeredEdgeSum};
+ghost use Rattle.hull.specs.Meaning.{facesOf};
 ghost use Rattle.solid.specs.Corners.{ringOf};
-ghost use Rattle.solid.specs.Faces.{allEdges, openEdges, keptVolume, edgeSum};
-ghost use Rattle.solid.specs.Reversal.{Negates};
-ghost use Rattle.solid.specs.Roll.{ask as asking, clear as clearing, Rolls};
-ghost use Rattle.solid.specs.Rules.{keyCount};
+ghost use Rattle.solid.specs.Roll.{clear as clearing, Rolls};
 ghost use Rattle.std.specs.Vec.{made};
-ghost use lib.ListN.{length};
 ghost use mathlib.Core.List.{[]};
 ghost use mathlib.Core.Path.{_≡_};
 use crate::hull::Hull;
+use crate::hull::limits::EDGES;
+use crate::hull::limits::FACES;
+use crate::hull::limits::KEYS;
 use faces::held::Faces;
 use fault::shape::ShapeFault;
 use solid::Corner;
@@ -27,10 +25,10 @@ impl Hull {
     pub fn new(heap: Global) -> Result<Hull, AllocError>
         ensures { λ r. ⌜ made r (λ h. (facesOf h ≡ []) × Rolls [] (facesOf h) × CountsFromEvery h) ⌝ }
     {
-        let faces = Faces::new(heap, 512, 3072)?;
-        let positions = Table::new(heap, 1024)?;
-        let keys = Table::new(heap, 1024)?;
-        let edges = Table::new(heap, 3072)?;
+        let faces = Faces::new(heap, FACES, EDGES)?;
+        let positions = Table::new(heap, KEYS)?;
+        let keys = Table::new(heap, KEYS)?;
+        let edges = Table::new(heap, EDGES)?;
         Ok(Hull {
             faces,
             positions,
@@ -63,54 +61,5 @@ impl Hull {
         self.open_edges = 0;
         self.volume = 0;
         self.edge_sum = [0; 3];
-    }
-
-    // How many faces there are.
-    pub fn face_count(&self) -> usize
-        ensures value { λ r. ⌜ r ≡ length (facesOf (now (self .entry))) ⌝ }
-        ensures law { λ _. ⌜ Law asking (now (self .entry)) (now (self .entry)) ⌝ }
-    {
-        self.faces.len()
-    }
-
-    // How many keys there are.
-    pub fn key_count(&self) -> usize
-        ensures value { λ r. ⌜ r ≡ keyCount (facesOf (now (self .entry))) ⌝ }
-        ensures law { λ _. ⌜ Law asking (now (self .entry)) (now (self .entry)) ⌝ }
-    {
-        self.positions.len()
-    }
-
-    // How many directed edges there are.
-    pub fn edge_count(&self) -> usize
-        ensures value { λ r. ⌜ r ≡ length (allEdges (facesOf (now (self .entry)))) ⌝ }
-        ensures law { λ _. ⌜ Law asking (now (self .entry)) (now (self .entry)) ⌝ }
-    {
-        self.faces.corner_count()
-    }
-
-    // How many directed edges are open: have no reverse in the hull.
-    pub fn open_edge_count(&self) -> usize
-        ensures value { λ r. ⌜ r ≡ length (openEdges (facesOf (now (self .entry)))) ⌝ }
-        ensures law { λ _. ⌜ Law asking (now (self .entry)) (now (self .entry)) ⌝ }
-    {
-        self.open_edges
-    }
-
-    // The kept volume: the count from the origin. Turning every ring round negates it, with each D and the edge sum.
-    pub fn kept_volume(&self) -> i64
-        ensures value { λ r. ⌜ (r ≡ keptVolume (facesOf (now (self .entry)))) × (r ≡ answeredVolume (now (self .entry))) ⌝ }
-        ensures negates { λ r. ⌜ Negates (facesOf (now (self .entry))) r (answeredEdgeSum (now (self .entry))) ⌝ }
-        ensures law { λ _. ⌜ Law asking (now (self .entry)) (now (self .entry)) ⌝ }
-    {
-        self.volume
-    }
-
-    // The edge sum: the sum of the vector products of the open edges' ends.
-    pub fn edge_sum(&self) -> [i64; 3]
-        ensures value { λ r. ⌜ (vector r ≡ edgeSum (facesOf (now (self .entry)))) × (vector r ≡ answeredEdgeSum (now (self .entry))) ⌝ }
-        ensures law { λ _. ⌜ Law asking (now (self .entry)) (now (self .entry)) ⌝ }
-    {
-        self.edge_sum
     }
 }

@@ -12,6 +12,11 @@ ghost use lib.ListN.{length, take};
 ghost use mathlib.Core.List.{[], _∷_, _++_};
 ghost use mathlib.Core.Path.{_≡_};
 use crate::hull::Hull;
+use crate::hull::limits::EDGES;
+use crate::hull::limits::FACES;
+use crate::hull::limits::KEYS;
+use crate::hull::limits::LEAST_CORNERS;
+use crate::hull::limits::MOST_CORNERS;
 use fault::shape::ShapeFault;
 use ring::following;
 use ring::is_planar;
@@ -120,13 +125,13 @@ impl Hull {
         requires { ⌜ Tidy (ringOf (now ring)) ⌝ }
         ensures { λ r. ⌜ Decides r (Limits (facesOf (now (self .entry)) ++ ringOf (now (ring .entry)) ∷ [])) ⌝ }
     {
-        if self.faces.len() >= 512 {
+        if self.faces.len() >= FACES {
             return false;
         }
-        if self.faces.corner_count() + ring.len() > 3072 {
+        if self.faces.corner_count() + ring.len() > EDGES {
             return false;
         }
-        self.positions.len() + self.new_keys(ring) <= 1024
+        self.positions.len() + self.new_keys(ring) <= KEYS
     }
 
     // The tests in order: D of the ring, or the fault of the first test that fails.
@@ -134,7 +139,7 @@ impl Hull {
         ensures { λ r. ⌜ Tested (facesOf (now (self .entry))) (ringOf (now (ring .entry))) r ⌝ }
     {
         let face = self.faces.len() + 1;
-        if ring.len() < 3 || ring.len() > 64 {
+        if ring.len() < LEAST_CORNERS || ring.len() > MOST_CORNERS {
             return Err(ShapeFault::CornerCount { face });
         }
         if let Some(key) = self.misfit(ring) {

@@ -46,3 +46,6 @@ returns c =
       corners = held;
       room = λ faces corners room. (omega (arith, room .0, c .push-reserved .ensures .capacity), omega (arith, room .1, c .extend-from-slice .ensures .capacity));
     }
+
+pub push-reserved-requires : need.push-reserved-requires
+push-reserved-requires c κs = let s = c .args .self .now in omega (arith, c .len .ensures, face-count s, c .capacity .ensures, c .if-len-capacity .left, s .ends .ok .1)

@@ -9,15 +9,15 @@ use Rattle.hull.proofs.Keys.{key-size, edge-total, face-total, edges-more, fac
 use Rattle.hull.proofs.Props.{kept-out}
 use Rattle.hull.proofs.hull.Hull.has_room.Needs as need
 
-pub returns-then-len-ge512 : need.returns-then-len-ge512
-returns-then-len-ge512 c =
+pub returns-then-len-ge-FACES : need.returns-then-len-ge-FACES
+returns-then-len-ge-FACES c =
     let h = c .args .self .now in (
       λ t. absurd (false≢true t),
       λ limits. absurd (omega (arith, limits .faces, faces-more (facesOf h) (ringOf (c .args .ring .now)), face-total (h .faces))),
     )
 
-pub returns-then-corner-count-ring-gt3072 : need.returns-then-corner-count-ring-gt3072
-returns-then-corner-count-ring-gt3072 c =
+pub returns-then-corner-count-ring-gt-EDGES : need.returns-then-corner-count-ring-gt-EDGES
+returns-then-corner-count-ring-gt-EDGES c =
     let h = c .args .self .now in
     let r = c .args .ring .now in (
       λ t. absurd (false≢true t),

@@ -14,24 +14,24 @@ use Rattle.hull.proofs.Keys.{face-total}
 use Rattle.hull.proofs.Props.{kept-out}
 use Rattle.hull.proofs.Says.{sized, says-count, says-misfit, says-not-planar, says-crossing, says-twice, says-full, says-taken}
 use Rattle.hull.proofs.hull.Hull.test.Needs as need
-use Rattle.hull.proofs.hull.Hull.test.Needs.{After-len-face, Else-ring-gt64, In-rest}
+use Rattle.hull.proofs.hull.Hull.test.Needs.{After-len-face, Else-ring-gt-MOST-CORNERS, In-rest}
 
 face-is : (c : After-len-face) → c .len-face .result + 1 ≡ length (facesOf (c .args .self .now)) + 1
 face-is c = omega (arith, c .len-face .ensures, face-total (c .args .self .now .faces))
 
-is-sized : (c : Else-ring-gt64) → Sized (ringOf (c .args .ring .now))
-is-sized c = sized (c .args .ring .now) (c .if-ring-lt3 .left) (c .if-ring-gt64 .left)
+is-sized : (c : Else-ring-gt-MOST-CORNERS) → Sized (ringOf (c .args .ring .now))
+is-sized c = sized (c .args .ring .now) (c .if-ring-lt-LEAST-CORNERS .left) (c .if-ring-gt-MOST-CORNERS .left)
 
 is-tidy : (c : In-rest) → Tidy (ringOf (c .args .ring .now))
-is-tidy c = allowed-tidy (facesOf (c .args .self .now)) (ringOf (c .args .ring .now)) (sized (c .args .ring .now) (c .if-ring-lt3 .left) (c .if-ring-gt64 .left)) (c .in-rest .ensures tt)
+is-tidy c = allowed-tidy (facesOf (c .args .self .now)) (ringOf (c .args .ring .now)) (sized (c .args .ring .now) (c .if-ring-lt-LEAST-CORNERS .left) (c .if-ring-gt-MOST-CORNERS .left)) (c .in-rest .ensures tt)
 
 pub add-face : need.add-face
 add-face c = omega (arith, c .len-face .ensures, face-total (c .args .self .now .faces), kept-out (c .args .self .now .kept) .consistent .limits .faces)
 
-pub returns-then-ring-lt3 : need.returns-then-ring-lt3
-returns-then-ring-lt3 c =
-    says-count (facesOf (c .args .self .now)) (ringOf (c .args .ring .now)) (c .len-face .result + 1) (face-is (need.at·returns-then-ring-lt3 c .After-len-face))
-    (λ size. elim (c .then-ring-lt3 .either) [
+pub returns-then-ring-lt-LEAST-CORNERS : need.returns-then-ring-lt-LEAST-CORNERS
+returns-then-ring-lt-LEAST-CORNERS c =
+    says-count (facesOf (c .args .self .now)) (ringOf (c .args .ring .now)) (c .len-face .result + 1) (face-is (need.at·returns-then-ring-lt-LEAST-CORNERS c .After-len-face))
+    (λ size. elim (c .then-ring-lt-LEAST-CORNERS .either) [
       | inl few ↦ omega (arith, size .0, length-map (c .args .ring .now) cornerOf)
       | inr many ↦ omega (arith, many .1, size .1, length-map (c .args .ring .now) cornerOf)
     ])
@@ -39,7 +39,7 @@ returns-then-ring-lt3 c =
 pub returns-in-Some : need.returns-in-Some
 returns-in-Some c =
     says-misfit (facesOf (c .args .self .now)) (ringOf (c .args .ring .now)) (c .len-face .result + 1) (face-is (need.at·returns-in-Some c .After-len-face))
-    (is-sized (need.at·returns-in-Some c .Else-ring-gt64)) (c .in-Some .key) (c .in-Some .ensures tt)
+    (is-sized (need.at·returns-in-Some c .Else-ring-gt-MOST-CORNERS)) (c .in-Some .key) (c .in-Some .ensures tt)
 
 pub normal-d-requires : need.normal-d-requires
 normal-d-requires c κs = is-tidy c
@@ -50,7 +50,7 @@ is-planar-requires c κs = record { tidy = is-tidy (need.at·is-planar-requires 
 pub returns-then-not-is-planar : need.returns-then-not-is-planar
 returns-then-not-is-planar c =
     says-not-planar (facesOf (c .args .self .now)) (ringOf (c .args .ring .now)) (c .len-face .result + 1) (face-is (need.at·returns-then-not-is-planar c .After-len-face))
-    (is-sized (need.at·returns-then-not-is-planar c .Else-ring-gt64)) (c .in-rest .ensures tt)
+    (is-sized (need.at·returns-then-not-is-planar c .Else-ring-gt-MOST-CORNERS)) (c .in-rest .ensures tt)
     (not-from-decides (c .is-planar .result) (c .is-planar .ensures) (c .if-not-is-planar .taken))
 
 pub is-simple-requires : need.is-simple-requires
@@ -59,13 +59,13 @@ is-simple-requires c κs = is-tidy (need.at·is-simple-requires c .In-rest)
 pub returns-then-not-is-simple : need.returns-then-not-is-simple
 returns-then-not-is-simple c =
     says-crossing (facesOf (c .args .self .now)) (ringOf (c .args .ring .now)) (c .len-face .result + 1) (face-is (need.at·returns-then-not-is-simple c .After-len-face))
-    (is-sized (need.at·returns-then-not-is-simple c .Else-ring-gt64)) (c .in-rest .ensures tt) (c .is-planar .ensures .0 (c .if-not-is-planar .left))
+    (is-sized (need.at·returns-then-not-is-simple c .Else-ring-gt-MOST-CORNERS)) (c .in-rest .ensures tt) (c .is-planar .ensures .0 (c .if-not-is-planar .left))
     (not-from-decides (c .is-simple .result) (c .is-simple .ensures) (c .if-not-is-simple .taken))
 
 pub returns-in-Some-repeated : need.returns-in-Some-repeated
 returns-in-Some-repeated c =
     says-twice (facesOf (c .args .self .now)) (ringOf (c .args .ring .now)) (c .len-face .result + 1) (face-is (need.at·returns-in-Some-repeated c .After-len-face))
-    (is-sized (need.at·returns-in-Some-repeated c .Else-ring-gt64)) (c .in-rest .ensures tt) (c .is-planar .ensures .0 (c .if-not-is-planar .left)) (c .is-simple .ensures .0 (c .if-not-is-simple .left))
+    (is-sized (need.at·returns-in-Some-repeated c .Else-ring-gt-MOST-CORNERS)) (c .in-rest .ensures tt) (c .is-planar .ensures .0 (c .if-not-is-planar .left)) (c .is-simple .ensures .0 (c .if-not-is-simple .left))
     (c .in-Some-repeated .from) (c .in-Some-repeated .to) (c .in-Some-repeated .ensures tt)
 
 pub has-room-requires : need.has-room-requires
@@ -74,13 +74,13 @@ has-room-requires c κs = is-tidy (need.at·has-room-requires c .In-rest)
 pub returns-then-not-has-room : need.returns-then-not-has-room
 returns-then-not-has-room c =
     says-full (facesOf (c .args .self .now)) (ringOf (c .args .ring .now)) (c .len-face .result + 1) (face-is (need.at·returns-then-not-has-room c .After-len-face))
-    (is-sized (need.at·returns-then-not-has-room c .Else-ring-gt64)) (c .in-rest .ensures tt) (c .is-planar .ensures .0 (c .if-not-is-planar .left)) (c .is-simple .ensures .0 (c .if-not-is-simple .left))
+    (is-sized (need.at·returns-then-not-has-room c .Else-ring-gt-MOST-CORNERS)) (c .in-rest .ensures tt) (c .is-planar .ensures .0 (c .if-not-is-planar .left)) (c .is-simple .ensures .0 (c .if-not-is-simple .left))
     (c .in-rest-repeated .ensures tt) (not-from-decides (c .has-room .result) (c .has-room .ensures) (c .if-not-has-room .taken))
 
 pub returns : need.returns
 returns c = (
   says-taken (facesOf (c .args .self .now)) (ringOf (c .args .ring .now)) (c .len-face .result + 1) (face-is (need.at·returns c .After-len-face))
-      (is-sized (need.at·returns c .Else-ring-gt64)) (c .in-rest .ensures tt) (c .is-planar .ensures .0 (c .if-not-is-planar .left)) (c .is-simple .ensures .0 (c .if-not-is-simple .left))
+      (is-sized (need.at·returns c .Else-ring-gt-MOST-CORNERS)) (c .in-rest .ensures tt) (c .is-planar .ensures .0 (c .if-not-is-planar .left)) (c .is-simple .ensures .0 (c .if-not-is-simple .left))
       (c .in-rest-repeated .ensures tt) (c .has-room .ensures .0 (c .if-not-has-room .left)),
   c .normal-d .ensures .is,
 )
