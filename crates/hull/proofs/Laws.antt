@@ -7,6 +7,7 @@ use Rattle.algebra.proofs.Vectors.{dot-null}
 use Rattle.solid.specs.Entering.{Entry, Enter-says, entered}
 use Rattle.solid.specs.Faces.{Ring, count}
 use Rattle.solid.specs.Reversal.{Negates}
+use Rattle.solid.specs.Rules.{Consistent}
 use Rattle.solid.specs.Roll.{enter, ask, Rolls}
 use Rattle.solid.proofs.Answered.{roll-entered}
 use Rattle.solid.proofs.Counting.{counts-agree}
@@ -14,12 +15,17 @@ use Rattle.solid.proofs.Turning.{negates}
 use Rattle.hull.specs.Law.{CountsFromEvery, Law}
 use Rattle.hull.specs.Meaning.{facesOf, answeredVolume, answeredEdgeSum}
 use Rattle.hull.specs.declared.hull.Hull.{Hull}
-use Rattle.hull.proofs.Props.{kept-out}
+use Rattle.index.proofs.Props.{kept-out}
+use Rattle.hull.proofs.Props.{counted-out}
+
+-- the faces of a hull are consistent
+pub consistent : (h : Hull) → Consistent (facesOf h)
+consistent h = kept-out (h .index .kept) .consistent
 
 pub counts : (h : Hull) → CountsFromEvery h
 counts h q =
-    let k = kept-out (h .kept) in
-    counts-agree (facesOf h) (k .consistent .once) q ∙ ap₂ (λ v s. v -ℤ dot q s) (sym (k .kept-volume)) (sym (k .edge-sum))
+    let k = counted-out (h .counted) in
+    counts-agree (facesOf h) (consistent h .once) q ∙ ap₂ (λ v s. v -ℤ dot q s) (sym (k .kept-volume)) (sym (k .edge-sum))
 
 pub asked : (h : Hull) → Law ask h h
 asked h = record { roll = λ calls r. (facesOf h, r, refl); counts = counts h }
@@ -36,6 +42,6 @@ entered-law h g ring x says e = record {
 
 pub turned-round : (h : Hull) → Negates (facesOf h) (answeredVolume h) (answeredEdgeSum h)
 turned-round h =
-    let k = kept-out (h .kept) in
-    let n = negates (facesOf h) (k .consistent .once) (λ r i. k .consistent .proper r i .planar .1) in
+    let k = counted-out (h .counted) in
+    let n = negates (facesOf h) (consistent h .once) (λ r i. consistent h .proper r i .planar .1) in
     subst (λ v. Negates (facesOf h) v (answeredEdgeSum h)) (sym (k .kept-volume)) (subst (Negates (facesOf h) _) (sym (k .edge-sum)) n)

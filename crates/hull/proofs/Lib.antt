@@ -1,10 +1,3 @@
 pub mod Props
-pub mod Empty
-pub mod Finds
-pub mod Allowed
-pub mod Edges
-pub mod Keys
-pub mod Says
-pub mod Grows
-pub mod Grown
+pub mod Counting
 pub mod Laws

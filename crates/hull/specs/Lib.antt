@@ -1,5 +1,3 @@
-pub mod Index
+pub mod Counts
 pub mod Meaning
-pub mod Tests
-pub mod Growth
 pub mod Law

@@ -2,12 +2,12 @@
 use mathlib.Core.List.{List}
 use lib.IntN.{ℤ}
 use Rattle.algebra.specs.Vector.{V3, vector}
-use Rattle.faces.specs.Held.{rings}
+use Rattle.index.specs.Meaning.{facesOf as indexed}
 use Rattle.solid.specs.Faces.{Ring}
 use Rattle.hull.specs.declared.hull.Hull.{Hull}
 
 abbrev pub facesOf : Hull → List Ring
-facesOf h = rings (h .faces)
+facesOf h = indexed (h .index)
 
 -- the kept volume and the edge sum as the questions answer them
 abbrev pub answeredVolume : Hull → ℤ

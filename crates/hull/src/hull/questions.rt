@@ -9,7 +9,6 @@ ghost use Rattle.solid.specs.Rules.{keyCount};
 ghost use lib.ListN.{length};
 ghost use mathlib.Core.Path.{_≡_};
 use crate::hull::Hull;
-use table::rank::KeyRank;
 
 impl Hull {
     // How many faces there are.
@@ -17,7 +16,7 @@ impl Hull {
         ensures value { λ r. ⌜ r ≡ length (facesOf (now (self .entry))) ⌝ }
         ensures law { λ _. ⌜ Law asking (now (self .entry)) (now (self .entry)) ⌝ }
     {
-        self.faces.len()
+        self.index.face_count()
     }
 
     // How many keys there are.
@@ -25,7 +24,7 @@ impl Hull {
         ensures value { λ r. ⌜ r ≡ keyCount (facesOf (now (self .entry))) ⌝ }
         ensures law { λ _. ⌜ Law asking (now (self .entry)) (now (self .entry)) ⌝ }
     {
-        self.positions.len()
+        self.index.key_count()
     }
 
     // How many directed edges there are.
@@ -33,7 +32,7 @@ impl Hull {
         ensures value { λ r. ⌜ r ≡ length (allEdges (facesOf (now (self .entry)))) ⌝ }
         ensures law { λ _. ⌜ Law asking (now (self .entry)) (now (self .entry)) ⌝ }
     {
-        self.faces.corner_count()
+        self.index.edge_count()
     }
 
     // How many directed edges are open: have no reverse in the hull.

@@ -1,23 +1,13 @@
-use mathlib.Core.Path.{refl}
-use native.Mathlib.Omega.{arith}
-use Rattle.faces.specs.Held.{rings}
+use Rattle.index.specs.Meaning.{facesOf as indexed}
 use Rattle.hull.specs.Meaning.{facesOf}
-use Rattle.hull.proofs.Empty.{empty-kept, rings-none}
+use Rattle.hull.proofs.Counting.{counted-none}
 use Rattle.hull.proofs.Laws.{counts-none}
-use Rattle.hull.proofs.Props.{kept-out}
 use Rattle.hull.proofs.hull.Hull.clear.Needs as need
 
 pub ghost-self : need.ghost-self
-ghost-self c =
-    let k = kept-out (c .args .self .now .kept) in (
-      ∣ empty-kept _ _ _ _ (c .clear .ensures .rings) (c .clear .ensures .corners) (c .clear .ensures .room 512 3072 (k .face-room))
-          (record { holds = c .clear-2 .ensures .holds; size = c .clear-2 .ensures .size; space = omega (arith, k .table-room .0, c .clear-2 .ensures .room) })
-          (record { holds = c .clear-3 .ensures .holds; size = c .clear-3 .ensures .size; space = omega (arith, k .table-room .1, c .clear-3 .ensures .room) })
-          (record { holds = c .clear-4 .ensures .holds; size = c .clear-4 .ensures .size; space = omega (arith, k .table-room .2, c .clear-4 .ensures .room) }) ∣₁,
-      tt,
-    )
+ghost-self c = (∣ counted-none (indexed (c .clear .last .self)) (c .clear .ensures) ∣₁, tt)
 
 pub returns : need.returns
 returns c =
-    let none = rings-none (c .clear .last .self) (c .clear .ensures .rings) in
-    record { faces = none; law = record { roll = λ calls r. (facesOf (c .args .self .now), r, none); counts = counts-none (rings (c .clear .last .self)) none } }
+    let none = c .clear .ensures in
+    record { faces = none; law = record { roll = λ calls r. (facesOf (c .args .self .now), r, none); counts = counts-none (indexed (c .clear .last .self)) none } }

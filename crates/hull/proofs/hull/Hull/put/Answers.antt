@@ -1,6 +1,6 @@
--- Nothing overflows, and the hull with the face is kept in step.
+-- Nothing overflows, and the counts are those of the faces with this one.
 use mathlib.Core.Path.{_≡_, sym, ap, ap₂, subst, _∙_}
-use mathlib.Core.List.{[], _∷_}
+use mathlib.Core.List.{[], _∷_, _++_}
 use Prim.Native.Nat.{ℕ, _+_, _*_, _^_, _≤_, _<_}
 use native.Mathlib.Omega.{arith}
 use borrow.Author.Needs.{needs}
@@ -12,7 +12,7 @@ use Rattle.algebra.specs.Vector.{Near, Large, vector, _+ᵛ_, dot}
 use Rattle.algebra.proofs.Machine.{Bounded, _∷ᵇ_, done, fits, stored}
 use Rattle.algebra.proofs.Ring.{var, _⊕_}
 use Rattle.solid.specs.Corners.{cornerOf, ringOf}
-use Rattle.solid.specs.Faces.{Edge, flip, edges, allEdges, sameEdge, isOpen, start, D}
+use Rattle.solid.specs.Faces.{Edge, flip, edges, allEdges, sameEdge, isOpen, openEdges, start, D}
 use Rattle.solid.specs.Lists.{has}
 use Rattle.solid.specs.Rules.{Tidy, Enterable}
 use Rattle.solid.proofs.Answered.{enter-taken, taken-allowed}
@@ -21,13 +21,12 @@ use Rattle.solid.proofs.Members.{edges-length}
 use Rattle.solid.proofs.Opens.{kept-short}
 use Rattle.ring.proofs.Places.{inside-at}
 use Rattle.ring.proofs.Planes.{start-is}
-use Rattle.hull.specs.Index.{Kept}
 use Rattle.hull.specs.Meaning.{facesOf}
-use Rattle.hull.proofs.Grown.{rings-grown, opens-grown, grown}
-use Rattle.hull.proofs.Keys.{edge-total}
-use Rattle.hull.proofs.Props.{kept-out}
+use Rattle.hull.proofs.Counting.{opens-more, counted-more}
+use Rattle.hull.proofs.Laws.{consistent}
+use Rattle.hull.proofs.Props.{counted-out}
 use Rattle.hull.proofs.hull.Hull.put.Needs as need
-use Rattle.hull.proofs.hull.Hull.put.Needs.{Start, After-reverses-reverses, After-dot-height, After-push}
+use Rattle.hull.proofs.hull.Hull.put.Needs.{Start, After-reverses-reverses, After-dot-height, After-put}
 
 may : (c : Start) → Enterable (facesOf (c .args .self .now)) (ringOf (c .args .ring .now))
 may c = enter-taken (facesOf (c .args .self .now)) (ringOf (c .args .ring .now)) (c .pre .passed)
@@ -52,18 +51,11 @@ large c = subst Large (sym (c .pre .normal)) (D-large (ringOf (c .args .ring .no
 pub dot-height-requires : need.dot-height-requires
 dot-height-requires c κs = (c .wide .ensures .small, large (need.at·dot-height-requires c .Start))
 
-pub add-edges-requires : need.add-edges-requires
-add-edges-requires c κs =
-    let h = c .args .self .now in (
-      omega (arith, c .corner-count-first .ensures, edge-total (h .faces), kept-out (h .kept) .consistent .limits .edges),
-      omega (arith, tidy (need.at·add-edges-requires c .Start) .sized .1, length-map (c .args .ring .now) cornerOf),
-    )
-
 -- ---- the open edges
 few-opens : (c : Start) → c .args .self .now .«open_edges» ≤ 3072
 few-opens c =
-    let k = kept-out (c .args .self .now .kept) in
-    omega (arith, k .open-count, kept-short (isOpen (allEdges (facesOf (c .args .self .now)))) (allEdges (facesOf (c .args .self .now))), k .consistent .limits .edges)
+    let k = counted-out (c .args .self .now .counted) in
+    omega (arith, k .open-count, kept-short (isOpen (allEdges (facesOf (c .args .self .now)))) (allEdges (facesOf (c .args .self .now))), consistent (c .args .self .now) .limits .edges)
 
 few-reverses : (c : After-reverses-reverses) → c .reverses-reverses .result ≤ length (c .args .ring .now)
 few-reverses c =
@@ -81,9 +73,9 @@ height-is c = c .dot-height .ensures ∙ ap₂ dot (c .wide .ensures .is ∙ sta
 
 bounded : (c : After-dot-height) → Tidy (ringOf (c .args .ring .now)) → Bounded (c .args .self .now .volume ∷ c .dot-height .result ∷ []) (3072 * (75 * 10 ^ 13) ∷ 64 * (75 * 10 ^ 13) ∷ [])
 bounded c t =
-    let k = kept-out (c .args .self .now .kept) in
+    let k = counted-out (c .args .self .now .counted) in
     let h = height-near (ringOf (c .args .ring .now)) t in
-    subst (Near (3072 * (75 * 10 ^ 13))) (sym (k .kept-volume)) (kept-near (facesOf (c .args .self .now)) (k .consistent))
+    subst (Near (3072 * (75 * 10 ^ 13))) (sym (k .kept-volume)) (kept-near (facesOf (c .args .self .now)) (consistent (c .args .self .now)))
     ∷ᵇ record { abs = omega (arith, ap natAbs (height-is c), h .abs, t .sized .1) }
     ∷ᵇ done
 
@@ -92,31 +84,26 @@ add-self-2 c = fits w64 (bounded (need.at·add-self-2 c .After-dot-height) (tidy
 
 pub plus-sum-requires : need.plus-sum-requires
 plus-sum-requires c κs =
-    let k = kept-out (c .args .self .now .kept) in
-    (subst Large (sym (k .edge-sum)) (edge-sum-large (facesOf (c .args .self .now)) (k .consistent)), large (need.at·plus-sum-requires c .Start))
+    let k = counted-out (c .args .self .now .counted) in
+    (subst Large (sym (k .edge-sum)) (edge-sum-large (facesOf (c .args .self .now)) (consistent (c .args .self .now))), large (need.at·plus-sum-requires c .Start))
+
+law : (c : After-put) (t : Enterable (facesOf (c .args .self .now)) (ringOf (c .args .ring .now))) → length (openEdges (facesOf (c .args .self .now) ++ ringOf (c .args .ring .now) ∷ [])) + 2 * c .reverses-reverses .result ≡ length (openEdges (facesOf (c .args .self .now))) + length (c .args .ring .now)
+law c t = opens-more (facesOf (c .args .self .now)) (c .args .ring .now) (consistent (c .args .self .now)) t (c .reverses-reverses .result) (c .reverses-reverses .ensures)
 
 pub sub-self : need.sub-self
-sub-self c =
-    let h = c .args .self .now in
-    let law = opens-grown (h .faces) (c .push .last .self) (c .args .ring .now) (h .positions) (c .add-corners .last .positions) (h .keys) (c .add-corners .last .keys) (h .edges) (c .add-edges .last .edges) (h .«open_edges») (h .volume) (h .«edge_sum») (c .push .result)
-    (kept-out (h .kept)) (may (need.at·sub-self c .Start)) (c .push .ensures) (c .add-corners .ensures .positions) (c .add-corners .ensures .keys) (rw (sym (c .corner-count-first .ensures)) (c .add-edges .ensures)) (c .reverses-reverses .result) (c .reverses-reverses .ensures) in
-    omega (arith, law)
+sub-self c = omega (arith, law c (may (need.at·sub-self c .Start)), counted-out (c .args .self .now .counted) .open-count)
 
 pub ghost-self : need.ghost-self
 ghost-self c =
     let h = c .args .self .now in
-    let start-of = need.at·ghost-self c .Start in
-    let law = opens-grown (h .faces) (c .push .last .self) (c .args .ring .now) (h .positions) (c .add-corners .last .positions) (h .keys) (c .add-corners .last .keys) (h .edges) (c .add-edges .last .edges) (h .«open_edges») (h .volume) (h .«edge_sum») (c .push .result)
-    (kept-out (h .kept)) (may start-of) (c .push .ensures) (c .add-corners .ensures .positions) (c .add-corners .ensures .keys) (rw (sym (c .corner-count-first .ensures)) (c .add-edges .ensures)) (c .reverses-reverses .result) (c .reverses-reverses .ensures) in (
-      ∣ grown (h .faces) (c .push .last .self) (c .args .ring .now) (h .positions) (c .add-corners .last .positions) (h .keys) (c .add-corners .last .keys) (h .edges) (c .add-edges .last .edges) (h .«open_edges») (h .volume) (h .«edge_sum») (c .push .result)
-          (kept-out (h .kept)) (may start-of) (c .push .ensures) (c .add-corners .ensures .positions) (c .add-corners .ensures .keys) (rw (sym (c .corner-count-first .ensures)) (c .add-edges .ensures)) (c .reverses-reverses .result) _ _ _ (c .reverses-reverses .ensures)
-          (omega (arith, law))
-          (stored w64 (bounded (need.at·ghost-self c .After-dot-height) (tidy start-of)) (var 0 ⊕ var 1) tt ∙ ap (λ k. h .volume +ℤ k) (height-is (need.at·ghost-self c .After-dot-height)))
+    let begun = need.at·ghost-self c .Start in
+    let k = counted-out (h .counted) in (
+      ∣ counted-more (facesOf h) (c .args .ring .now) (consistent h) (may begun) (c .reverses-reverses .result) (c .reverses-reverses .ensures) _ (h .«open_edges») _ (h .volume) _ (h .«edge_sum») _ (c .put .ensures) k
+          (omega (arith, law (need.at·ghost-self c .After-put) (may begun), k .open-count))
+          (stored w64 (bounded (need.at·ghost-self c .After-dot-height) (tidy begun)) (var 0 ⊕ var 1) tt ∙ ap (λ m. h .volume +ℤ m) (height-is (need.at·ghost-self c .After-dot-height)))
           (c .plus-sum .ensures ∙ ap (λ v. vector (h .«edge_sum») +ᵛ v) (c .pre .normal)) ∣₁,
       tt,
     )
 
 pub returns : need.returns
-returns c =
-    let h = c .args .self .now in
-    rings-grown (h .faces) (c .push .last .self) (c .args .ring .now) (h .positions) (c .add-corners .last .positions) (h .keys) (c .add-corners .last .keys) (h .edges) (c .add-edges .last .edges) (h .«open_edges») (h .volume) (h .«edge_sum») (c .push .result) (kept-out (h .kept)) (may (need.at·returns c .Start)) (c .push .ensures)
+returns c = c .put .ensures

@@ -1,0 +1,4 @@
+pub mod Tables
+pub mod Meaning
+pub mod Tests
+pub mod Growth

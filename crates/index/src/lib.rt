@@ -1,0 +1,2 @@
+// Faces with an index: what is entered is tested against it, and found in it by binary search.
+pub mod index;
