@@ -1,18 +1,18 @@
 -- Certifying answers a certificate exactly of sound faces, and else one fault, up to which open edge it names.
-use mathlib.Core.Path.{_≡_, refl, sym, _∙_, ap, subst}
+use mathlib.Core.Path.{_≡_, sym, _∙_, ap, subst}
 use mathlib.Core.Logic.{_⊎_, inl, inr, _↔_}
 use mathlib.Core.List.{List}
 use Prim.Native.Nat.{ℕ, _<_}
 use Rattle.std.specs.declared.result.Result.the-variants.{Ok, Err}
 use Rattle.std.proofs.shelf.Tests.{cases-order}
 use Rattle.fault.specs.declared.shape.ShapeFault.the-variants.{KeyCycle}
-use Rattle.solid.specs.Faces.{Corner, Ring}
+use Rattle.solid.specs.Faces.{Ring}
 use Rattle.solid.specs.Rules.{Consistent}
 use Rattle.solid.specs.Soundness.{Round, Sound, Certificate, certificate}
 use Rattle.solid.specs.Certifying.{Verdict, NamesOpenEdge, LeastNotRound, Certify-says}
 use Rattle.solid.specs.Alike.{Alike}
 use Rattle.solid.proofs.Answered.{key-in}
-use Rattle.solid.proofs.Ordered.{Each-two, one-refused, each-or-else, passed, IsOk}
+use Rattle.solid.proofs.Ordered.{one-refused, each-or-else, passed, IsOk}
 use Rattle.solid.proofs.Alikes.{consistent-alike, alike-certify}
 
 -- certifying consistent faces answers a certificate exactly where they are sound, and that of them

@@ -2,7 +2,8 @@
 use mathlib.Core.Path.{_≡_, refl, sym, _∙_, ap, subst}
 use mathlib.Core.Logic.{_⊎_, inl, inr, _↔_}
 use mathlib.Core.List.{List, [], _∷_, _++_, append-nil, append-assoc}
-use Prim.Native.Nat.{ℕ, _+_, _<_}
+use Prim.Native.Nat.{ℕ, _+_, _≤_}
+use native.Mathlib.Nat.{le-refl}
 use native.Mathlib.Omega.{arith}
 use lib.ListN.{length, length-append}
 use Rattle.std.specs.declared.result.Result.the-variants.{Ok, Err}
@@ -12,7 +13,7 @@ use Rattle.solid.specs.Rules.{Consistent}
 use Rattle.solid.specs.Soundness.{Sound, Certificate, certificate}
 use Rattle.solid.specs.Entering.{Enter-says}
 use Rattle.solid.specs.Certifying.{Verdict, NamesOpenEdge, Certify-says}
-use Rattle.solid.specs.Sources.{Meaning, is, fault, Face-is, Begins, Gives}
+use Rattle.solid.specs.Sources.{Meaning, is, Begins, Gives}
 use Rattle.solid.specs.Checking.{Check-from, unread, refused, taken, done, Check-says, uncounted, counted, Checked}
 use Rattle.solid.specs.Alike.{Alike}
 use Rattle.solid.specs.Roll.{Call, check, Certified, After, Rolls}
@@ -26,7 +27,7 @@ use Rattle.solid.proofs.Alikes.{alike-certify}
 
 -- ---- a certificate
 -- all faces of the source, consistent, as certifying meets them
-pub record Whole (m : Meaning) (n : ℕ) (x : Verdict) (fs : List Ring) : Type 0 where
+record Whole (m : Meaning) (n : ℕ) (x : Verdict) (fs : List Ring) : Type 0 where
   pub number : length fs ≡ n
   pub begins : Begins m fs
   pub consistent : Consistent fs
@@ -39,13 +40,17 @@ to-whole m n fs x ok b st (taken {r = r} l k s more) =
     to-whole m n (fs ++ r ∷ []) x ok (begins-more m fs r b k) (consistent-more fs r st (enter-taken fs r s)) more
 to-whole m n fs x ok b st (done e s) = (fs, record { number = e; begins = b; consistent = st; says = s })
 
-from-whole : (m : Meaning) (x : Verdict) (fs rs : List Ring) → Begins m (fs ++ rs) → Consistent (fs ++ rs) → Certify-says (fs ++ rs) x → Check-from m (length (fs ++ rs)) fs x
-from-whole m x fs [] b st s = subst (λ (gs : List Ring). Check-from m (length gs) fs x) (sym (append-nil fs)) (done refl (subst (λ (gs : List Ring). Certify-says gs x) (append-nil fs) s))
-from-whole m x fs (r ∷ rs) b st s =
+entered-before : (m : Meaning) (n : ℕ) (x : Verdict) (fs rs : List Ring) → Begins m (fs ++ rs) → Consistent (fs ++ rs) → length (fs ++ rs) ≤ n → Check-from m n (fs ++ rs) x → Check-from m n fs x
+entered-before m n x fs [] b st l h = subst (λ (gs : List Ring). Check-from m n gs x) (append-nil fs) h
+entered-before m n x fs (r ∷ rs) b st l h =
     let same = append-assoc fs (r ∷ []) rs in
     taken (omega (arith, length-append fs (r ∷ rs))) (begins-next m fs r rs b) (enterable-taken fs r (consistent-enterable fs r rs st))
-    (subst (λ (gs : List Ring). Check-from m (length gs) (fs ++ r ∷ []) x) same
-    (from-whole m x (fs ++ r ∷ []) rs (subst (Begins m) (sym same) b) (subst Consistent (sym same) st) (subst (λ (gs : List Ring). Certify-says gs x) (sym same) s)))
+    (entered-before m n x (fs ++ r ∷ []) rs (subst (Begins m) (sym same) b) (subst Consistent (sym same) st) (subst (λ (gs : List Ring). length gs ≤ n) (sym same) l)
+    (subst (λ (gs : List Ring). Check-from m n gs x) (sym same) h))
+
+-- a check whose first faces, fs, are read and entered says what it says from there
+pub check-reached : (m : Meaning) (n : ℕ) (x : Verdict) (fs : List Ring) → m .faces ≡ is n → Begins m fs → Consistent fs → length fs ≤ n → Check-from m n fs x → Check-says m x
+check-reached m n x fs e b st l h = counted e (entered-before m n x [] fs b st l h)
 
 -- a check answers a certificate exactly where the source has no fault and its faces are sound, and that of them
 pub check-sound : (m : Meaning) (c : Certificate) → Check-says m (Ok c) ↔ ((fs : List Ring) × Gives m fs × Sound fs × (c ≡ certificate fs))
@@ -61,8 +66,9 @@ check-sound m c = (λ h. forth (Ok c) refl h, back)
 
     back : ((fs : List Ring) × Gives m fs × Sound fs × (c ≡ certificate fs)) → Check-says m (Ok c)
     back h =
+        let fs = h .0 in
         let st = h .2 .consistent in
-        counted (h .1 .faces) (from-whole m (Ok c) [] (h .0) (h .1 .each) st (certify-sound (h .0) st c .1 (h .2, h .3)))
+        check-reached m (length fs) (Ok c) fs (h .1 .faces) (h .1 .each) st (le-refl (length fs)) (done refl (certify-sound fs st c .1 (h .2, h .3)))
 
 -- ---- one answer
 -- two answers are one, or both name an open edge of the source's faces

@@ -1,15 +1,13 @@
 -- A ring begun at another corner has the same corners and edges, in another order. What two such rings share follows from that alone.
 use mathlib.Core.Path.{_≡_, refl, sym, _∙_, ap, subst, subst₂}
 use mathlib.Core.Logic.{inl}
-use mathlib.Core.List.{List, [], _∷_, _++_, List·Permᴰ·trans, Permᴰ·refl, Permᴰ·symm}
+use mathlib.Core.List.{[], _∷_, List·Permᴰ·trans, Permᴰ·refl, Permᴰ·symm}
 use Prim.Native.Nat.{_≤_}
 use lib.IntN.{_-ℤ_, +ℤ-invr}
-use lib.ListN.{length}
 use Rattle.algebra.specs.Vector.{dot}
 use Rattle.algebra.proofs.Vectors.{sub-dot}
-use Rattle.solid.specs.Lists.{In}
-use Rattle.solid.specs.Faces.{Corner, Ring, edges, D, start}
-use Rattle.solid.specs.Rules.{Sized, Flat, Proper}
+use Rattle.solid.specs.Faces.{Ring, edges, D, start}
+use Rattle.solid.specs.Rules.{Flat, Proper}
 use Rattle.solid.specs.Alike.{Turned}
 use Rattle.solid.proofs.Perms.{Mixed, mixed-turn, mixed-map, length-mixed, in-mixed, distinct-mixed}
 use Rattle.solid.proofs.Turning.{edges-turn, spans-mixed, level}

@@ -1,10 +1,9 @@
 -- A source's replies are one each: it gives one list of faces, and a face that it gives has no fault.
-use mathlib.Core.Path.{_≡_, refl, sym, _∙_, ap, subst}
+use mathlib.Core.Path.{_≡_, sym, _∙_, ap, subst}
 use mathlib.Core.Logic.{inl, inr}
 use mathlib.Core.List.{List, [], _∷_, _++_}
 use Prim.Native.Nat.{ℕ, _+_, _<_}
 use native.Mathlib.Omega.{arith}
-use lib.IntN.{pos}
 use lib.ListN.{length, getD, length-append}
 use lib.Seq.{ext-getD, getD-append-seam}
 use Rattle.std.proofs.shelf.Lists.{getD-append-left}
