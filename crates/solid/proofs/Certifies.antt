@@ -45,7 +45,7 @@ certify-one fs =
     (each-or-else _ _ _ _ (λ x y p q. inl (one-refused _ _ x y p q))
     (each-or-else _ _ _ _ (λ x y p q. inl (one-refused _ _ x y p q)) (λ x y p q. inl (p ∙ sym q)))))
 
--- ---- faces that are alike
+-- faces that are alike get the same certificate, or none
 pub certify-alike : (fs gs : List Ring) → Alike fs gs → Consistent fs → (c : Certificate) → Certify-says fs (Ok c) ↔ Certify-says gs (Ok c)
 certify-alike fs gs a st c =
     let here = certify-sound fs st c in

@@ -71,8 +71,7 @@ check-sound m c = (λ h. forth (Ok c) refl h, back)
         check-reached m (length fs) (Ok c) fs (h .1 .faces) (h .1 .each) st (le-refl (length fs)) (done refl (certify-sound fs st c .1 (h .2, h .3)))
 
 -- ---- one answer
--- two answers are one, or both name an open edge of the source's faces
-abbrev pub OneOrOpen : Meaning → Verdict → Verdict → Type 0
+abbrev OneOrOpen : Meaning → Verdict → Verdict → Type 0
 OneOrOpen m x y = (x ≡ y) ⊎ ((fs : List Ring) × Gives m fs × NamesOpenEdge fs x × NamesOpenEdge fs y)
 
 from-one : (m : Meaning) (n : ℕ) → m .faces ≡ is n → (fs : List Ring) (x y : Verdict) → Begins m fs → Check-from m n fs x → Check-from m n fs y → OneOrOpen m x y
@@ -101,7 +100,8 @@ from-one m n e fs x y b (done l s) (done k s′) = elim (certify-one fs x y s s�
   | inr both ↦ inr (fs, record { faces = e ∙ ap is (sym l); each = b }, both .0, both .1)
 ]
 
-pub check-one : (m : Meaning) (x y : Verdict) → Check-says m x → Check-says m y → OneOrOpen m x y
+-- two answers are one, or both name an open edge of the source's faces
+pub check-one : (m : Meaning) (x y : Verdict) → Check-says m x → Check-says m y → (x ≡ y) ⊎ ((fs : List Ring) × Gives m fs × NamesOpenEdge fs x × NamesOpenEdge fs y)
 check-one m x y (uncounted {f = f} p) (uncounted {f = g} q) = inl (ap (λ t. Err (Source 0 t)) (fault-same {A = ℕ} f g (sym p ∙ q)))
 check-one m x y (uncounted {f = f} p) (counted {n = n} q h) = absurd (fault-is f n (sym p ∙ q))
 check-one m x y (counted {n = n} p h) (uncounted {f = f} q) = absurd (fault-is f n (sym q ∙ p))
@@ -112,7 +112,7 @@ check-one m x y (counted {n = n} p h) (counted {n = k} q g) =
 -- what a check says makes the next roll: the source's faces where it is certified, else none
 pub check-faces : (m : Meaning) (x : Verdict) (fs : List Ring) → Check-says m x → Checked m x fs → (old : List Ring) → After (check m) old fs
 check-faces m (Ok c) fs h g old = let k = check-sound m c .0 h in inl (g, subst Sound (gives-one m (k .0) fs (k .1) g) (k .2))
-check-faces m (Err f) fs h e old = inr (λ gs k. no gs k, e)
+check-faces m (Err f) fs h e old = inr (no, e)
   where
     no : (gs : List Ring) → Certified m gs → ⊥
     no gs k = elim (check-one m (Ok (certificate gs)) (Err f) (check-sound m (certificate gs) .1 (gs, k .0, k .1, refl)) h) [
@@ -123,7 +123,7 @@ check-faces m (Err f) fs h e old = inr (λ gs k. no gs k, e)
 pub roll-checked : (calls : List Call) (old fs : List Ring) (m : Meaning) (x : Verdict) → Rolls calls old → Check-says m x → Checked m x fs → Rolls (check m ∷ calls) fs
 roll-checked calls old fs m x h s g = (old, h, check-faces m x fs s g old)
 
--- ---- sources with faces that are alike
+-- sources with faces that are alike get the same certificate, or none
 pub check-alike : (m m′ : Meaning) (fs gs : List Ring) → Gives m fs → Gives m′ gs → Alike fs gs → (c : Certificate) → Check-says m (Ok c) ↔ Check-says m′ (Ok c)
 check-alike m m′ fs gs g g′ a c =
     let k = alike-certify fs gs a in (

@@ -81,14 +81,14 @@ pub record Enterable (fs : List Ring) (r : Ring) : Type 0 where
   pub fresh : Fresh fs r
   pub limits : Limits (fs ++ r ∷ [])
 
--- each of some faces may be entered after fs and those before it
-abbrev pub InTurn : List Ring → List Ring → Type 0
-InTurn fs [] = Unit {0}
-InTurn fs (r ∷ rs) = Enterable fs r × InTurn (fs ++ r ∷ []) rs
-
 -- the same of all faces together
 pub record Consistent (fs : List Ring) : Type 0 where
   pub proper : (r : Ring) → In r fs → Proper r
   pub agree : (a b : Corner) → In a (corners fs) → In b (corners fs) → Agree a b
   pub once : Distinct (allEdges fs)
   pub limits : Limits fs
+
+-- each of some faces may be entered after fs and those before it
+abbrev pub InTurn : List Ring → List Ring → Type 0
+InTurn fs [] = Unit {0}
+InTurn fs (r ∷ rs) = Enterable fs r × InTurn (fs ++ r ∷ []) rs
