@@ -6,7 +6,7 @@ use Rattle.fault.specs.declared.text.TextFault.the-variants.{TooLong, NoToken,
 use Rattle.fault.specs.declared.record.RecordFault.{RecordFault}
 use Rattle.fault.specs.declared.record.RecordFault.the-variants.{Text, Absent, Outside, Keyword, Count, Kind, Value, Twice}
 use Rattle.fault.specs.declared.shape.ShapeFault.{ShapeFault}
-use Rattle.fault.specs.declared.shape.ShapeFault.the-variants.{Source, CornerCount, Corner, NotPlanar, Crossing, EdgeTwice, Full}
+use Rattle.fault.specs.declared.shape.ShapeFault.the-variants.{Source, CornerCount, Corner, NotPlanar, Crossing, EdgeTwice, Full, OpenEdge, KeyCycle, Disconnected, NoVolume}
 
 abbrev pub textNumber : TextFault → ℕ
 textNumber (TooLong place) = 1
@@ -35,3 +35,7 @@ shapeNumber (NotPlanar face) = 15
 shapeNumber (Crossing face) = 16
 shapeNumber (EdgeTwice face from to) = 17
 shapeNumber (Full face) = 18
+shapeNumber (OpenEdge from to) = 19
+shapeNumber (KeyCycle key) = 20
+shapeNumber Disconnected = 21
+shapeNumber NoVolume = 22

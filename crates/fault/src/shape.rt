@@ -6,7 +6,7 @@ use crate::record::RecordFault;
 use crate::record::RecordFaultDebug;
 use crate::record::RecordFaultPartialEq;
 
-// `face` is the position of the face asked or entered, from 1, or 0 where no face was.
+// `face` is the position of the face asked or entered, from 1, or 0 where no face was; the faults of a whole hull have none.
 #[derive(Clone, Copy, Debug, PartialEq, Eq)]
 pub enum ShapeFault {
     // the source answered with a fault
@@ -23,10 +23,18 @@ pub enum ShapeFault {
     EdgeTwice { face: usize, from: u32, to: u32 },
     // the hull has no room for the face
     Full { face: usize },
+    // a directed edge of the hull whose reverse is not in it
+    OpenEdge { from: u32, to: u32 },
+    // the faces round this key are not one cycle
+    KeyCycle { key: u32 },
+    // a face is not reached from the first over shared edges
+    Disconnected,
+    // the kept volume is less than 1
+    NoVolume,
 }
 
 impl ShapeFault {
-    // The fault's number, that of the fault inside where there is one, else 14 to 18.
+    // The fault's number, that of the fault inside where there is one, else 14 to 22.
     pub fn number(&self) -> u32
         ensures { λ r. ⌜ r ≡ shapeNumber (now (self .entry)) ⌝ }
     {
@@ -37,6 +45,10 @@ impl ShapeFault {
             ShapeFault::Crossing { .. } => 16,
             ShapeFault::EdgeTwice { .. } => 17,
             ShapeFault::Full { .. } => 18,
+            ShapeFault::OpenEdge { .. } => 19,
+            ShapeFault::KeyCycle { .. } => 20,
+            ShapeFault::Disconnected => 21,
+            ShapeFault::NoVolume => 22,
         }
     }
 }

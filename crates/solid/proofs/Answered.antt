@@ -5,35 +5,17 @@ use mathlib.Core.List.{List, [], _∷_, _++_, map}
 use Prim.Native.Nat.{ℕ, _+_}
 use lib.ListN.{length}
 use Rattle.std.specs.declared.result.Result.the-variants.{Ok, Err}
-use Rattle.fault.specs.declared.shape.ShapeFault.{ShapeFault}
 use Rattle.fault.specs.declared.shape.ShapeFault.the-variants.{Corner as BadCorner, EdgeTwice}
 use Rattle.solid.specs.Lists.{In, Distinct}
 use Rattle.solid.specs.Faces.{Corner, Ring, Edge, edges, allEdges}
 use Rattle.solid.specs.Rules.{Valid, Sized, Tidy, corners, Agree, Enterable}
-use Rattle.solid.specs.Entering.{Entry, Refused, Or-else, AllAllowed, FirstMisfit, FirstIn, Enter-says, entered}
+use Rattle.solid.specs.Entering.{Entry, AllAllowed, FirstMisfit, FirstIn, Enter-says, entered}
 use Rattle.solid.specs.Roll.{Call, enter, Rolls}
 use Rattle.solid.proofs.Members.{in-append, in-left, in-right, in-map}
+use Rattle.solid.proofs.Ordered.{Each-two, one-refused, each-or-else, passed, IsOk}
 use Rattle.solid.proofs.Rolls.{agree-back}
 
--- ---- tests in order
-abbrev One : (Entry → Type 0) → Type 0
-One Q = (x y : Entry) → Q x → Q y → x ≡ y
-
-one-refused : (n : ℕ) (f : ShapeFault) → One (Refused n f)
-one-refused n f x y p q = p .0 ∙ sym (q .0)
-
-one-or-else : (P : Type 0) (fail after : Entry → Type 0) → One fail → One after → One (Or-else P fail after)
-one-or-else P fail after f g x y (inl p) (inl q) = f x y (p .1) (q .1)
-one-or-else P fail after f g x y (inl p) (inr q) = absurd (p .0 (q .0))
-one-or-else P fail after f g x y (inr p) (inl q) = absurd (q .0 (p .0))
-one-or-else P fail after f g x y (inr p) (inr q) = g x y (p .1) (q .1)
-
--- a test passed, where its failure says something else
-passed : {P F A : Type 0} → (F → ⊥) → ((P → ⊥) × F) ⊎ (P × A) → P × A
-passed n (inl p) = absurd (n (p .1))
-passed n (inr p) = p
-
--- ---- Enter
+-- ---- one answer
 misfit-one : (fs : List Ring) (b : List Corner) (r : Ring) (k l : ℕ) → FirstMisfit fs b r k → FirstMisfit fs b r l → k ≡ l
 misfit-one fs b [] k l p q = absurd p
 misfit-one fs b (c ∷ cs) k l (inl p) (inl q) = p .1 ∙ sym (q .1)
@@ -48,14 +30,14 @@ first-one others (g ∷ es) e f (inl p) (inr q) = absurd (q .0 (p .0))
 first-one others (g ∷ es) e f (inr p) (inl q) = absurd (p .0 (q .0))
 first-one others (g ∷ es) e f (inr p) (inr q) = first-one others es e f (p .1) (q .1)
 
-pub enter-one : (fs : List Ring) (r : Ring) → One (Enter-says fs r)
+pub enter-one : (fs : List Ring) (r : Ring) → Each-two (Enter-says fs r) _≡_
 enter-one fs r =
-    one-or-else _ _ _ (one-refused _ _)
-    (one-or-else _ _ _ (λ x y p q. p .2 .0 ∙ ap (λ k. Err (BadCorner (length fs + 1) k)) (misfit-one fs [] r (p .0) (q .0) (p .1) (q .1)) ∙ sym (q .2 .0))
-    (one-or-else _ _ _ (one-refused _ _)
-    (one-or-else _ _ _ (one-refused _ _)
-    (one-or-else _ _ _ (λ x y p q. p .2 .0 ∙ ap (λ (e : Edge). Err (EdgeTwice (length fs + 1) (e .0 .key) (e .1 .key))) (first-one (allEdges fs) (edges r) (p .0) (q .0) (p .1) (q .1)) ∙ sym (q .2 .0))
-    (one-or-else _ _ _ (one-refused _ _) (λ x y p q. p ∙ sym q))))))
+    each-or-else _ _ _ _ (one-refused _ _)
+    (each-or-else _ _ _ _ (λ x y p q. p .2 .0 ∙ ap (λ k. Err (BadCorner (length fs + 1) k)) (misfit-one fs [] r (p .0) (q .0) (p .1) (q .1)) ∙ sym (q .2 .0))
+    (each-or-else _ _ _ _ (one-refused _ _)
+    (each-or-else _ _ _ _ (one-refused _ _)
+    (each-or-else _ _ _ _ (λ x y p q. p .2 .0 ∙ ap (λ (e : Edge). Err (EdgeTwice (length fs + 1) (e .0 .key) (e .1 .key))) (first-one (allEdges fs) (edges r) (p .0) (q .0) (p .1) (q .1)) ∙ sym (q .2 .0))
+    (each-or-else _ _ _ _ (one-refused _ _) (λ x y p q. p ∙ sym q))))))
 
 -- corners allowed one after the other, as rules on the whole ring
 pub key-in : (k : ℕ) (cs : List Corner) → In k (map (λ (c : Corner). c .key) cs) → (c : Corner) × In c cs × (k ≡ c .key)
@@ -122,18 +104,14 @@ pub allowed-tidy : (fs : List Ring) (r : Ring) → Sized r → AllAllowed fs [] 
 allowed-tidy fs r s h = record { sized = s; valid = allowed-valid fs [] r h; keys = allowed-keys fs [] r h }
 
 -- ---- all tests passed
-abbrev Taken : Entry → Type 0
-Taken (Ok done) = Unit {0}
-Taken (Err f) = ⊥
-
 pub enter-taken : (fs : List Ring) (r : Ring) → Enter-says fs r (Ok tt) → Enterable fs r
 enter-taken fs r h =
-    let s14 = passed (λ e. subst Taken (e .0) tt) h in
-    let s14′ = passed (λ e. subst Taken (e .2 .0) tt) (s14 .1) in
-    let s15 = passed (λ e. subst Taken (e .0) tt) (s14′ .1) in
-    let s16 = passed (λ e. subst Taken (e .0) tt) (s15 .1) in
-    let s17 = passed (λ e. subst Taken (e .2 .0) tt) (s16 .1) in
-    let s18 = passed (λ e. subst Taken (e .0) tt) (s17 .1) in
+    let s14 = passed (λ e. subst IsOk (e .0) tt) h in
+    let s14′ = passed (λ e. subst IsOk (e .2 .0) tt) (s14 .1) in
+    let s15 = passed (λ e. subst IsOk (e .0) tt) (s14′ .1) in
+    let s16 = passed (λ e. subst IsOk (e .0) tt) (s15 .1) in
+    let s17 = passed (λ e. subst IsOk (e .2 .0) tt) (s16 .1) in
+    let s18 = passed (λ e. subst IsOk (e .0) tt) (s17 .1) in
     record {
       proper = record { tidy = allowed-tidy fs r (s14 .0) (s14′ .0); planar = s15 .0; simple = s16 .0 };
       agree = λ a b i j. elim (in-append b r (corners fs) j) [ inl k ↦ agree-within fs [] r (s14′ .0) a b i k | inr k ↦ agree-before fs [] r (s14′ .0) a b i (inr k) ];
@@ -143,8 +121,8 @@ enter-taken fs r h =
 
 pub taken-allowed : (fs : List Ring) (r : Ring) → Enter-says fs r (Ok tt) → AllAllowed fs [] r
 taken-allowed fs r h =
-    let s14 = passed (λ e. subst Taken (e .0) tt) h in
-    passed (λ e. subst Taken (e .2 .0) tt) (s14 .1) .0
+    let s14 = passed (λ e. subst IsOk (e .0) tt) h in
+    passed (λ e. subst IsOk (e .2 .0) tt) (s14 .1) .0
 
 pub enterable-taken : (fs : List Ring) (r : Ring) → Enterable fs r → Enter-says fs r (Ok tt)
 enterable-taken fs r h =
@@ -161,4 +139,4 @@ enterable-taken fs r h =
 -- what entering says makes the next roll
 pub roll-entered : (calls : List Call) (fs : List Ring) (r : Ring) (x : Entry) → Rolls calls fs → Enter-says fs r x → Rolls (enter r ∷ calls) (entered fs r x)
 roll-entered calls fs r (Ok done) h s = (fs, h, inl (enter-taken fs r s, refl))
-roll-entered calls fs r (Err f) h s = (fs, h, inr (λ e. subst Taken (enter-one fs r (Ok tt) (Err f) (enterable-taken fs r e) s) tt, refl))
+roll-entered calls fs r (Err f) h s = (fs, h, inr (λ e. subst IsOk (enter-one fs r (Ok tt) (Err f) (enterable-taken fs r e) s) tt, refl))

@@ -1,7 +1,7 @@
 -- The count from q is the kept volume less q · edge sum.
 use mathlib.Core.Path.{_≡_, refl, sym, _∙_, ap, ap₂}
 use mathlib.Core.List.{List, [], _∷_}
-use lib.IntN.{ℤ, pos, _+ℤ_, _-ℤ_, +ℤ-idr}
+use lib.IntN.{ℤ, _+ℤ_, _-ℤ_, +ℤ-idr}
 use Rattle.solid.specs.Lists.{total, Distinct}
 use Rattle.algebra.specs.Vector.{V3, null, _-ᵛ_, dot}
 use Rattle.solid.specs.Faces.{Ring, Edge, flip, edges, allEdges, span, spans, D, start, count, keptVolume, sameEdge, openEdges, edgeSum}

@@ -2,19 +2,19 @@
 use mathlib.Core.Path.{_≡_, refl, sym, _∙_, ap, ap₂, subst}
 use mathlib.Core.Logic.{inl, inr}
 use mathlib.Core.List.{List, [], _∷_, _++_}
-use Prim.Native.Nat.{ℕ, suc, _+_, _*_, _^_, _≤_}
+use Prim.Native.Nat.{ℕ, suc, _+_, _*_, _^_}
 use native.Mathlib.Nat.{le-trans}
 use native.Mathlib.Omega.{arith}
-use lib.IntN.{ℤ, pos, natAbs, _+ℤ_, +ℤ-idr}
+use lib.IntN.{ℤ, _+ℤ_, +ℤ-idr}
 use lib.ListN.{length, length-append}
 use borrow.Author.Differences.{ints}
-use Rattle.algebra.specs.Vector.{V3, null, _+ᵛ_, dot, Near, Within, Inside, Large}
+use Rattle.algebra.specs.Vector.{V3, _+ᵛ_, dot, Near, Within, Inside, Large}
 use Rattle.algebra.proofs.Bounds.{_∷ᵛ_, vector-within}
 use Rattle.algebra.proofs.Machine.{done, within}
 use Rattle.algebra.proofs.Vectors.{𝐚, 𝐛, 𝐜, nullᴱ, _+ᴱ_, dotᴱ, crossᴱ, by-ringᵛ}
 use Rattle.solid.specs.Lists.{In, Distinct}
-use Rattle.solid.specs.Faces.{Corner, Ring, Edge, edges, allEdges, span, spans, D, start, keptVolume, edgeSum}
-use Rattle.solid.specs.Rules.{Valid, Tidy, Proper, Consistent}
+use Rattle.solid.specs.Faces.{Ring, Edge, edges, allEdges, span, spans, D, start, keptVolume, edgeSum}
+use Rattle.solid.specs.Rules.{Tidy, Consistent}
 use Rattle.solid.proofs.Counting.{base, kept-is, edge-sum-is-whole}
 use Rattle.solid.proofs.Members.{edges-length, edge-from, edge-to, face-of, allEdges-more}
 use Rattle.solid.proofs.Sums.{total-append}

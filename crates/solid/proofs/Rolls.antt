@@ -8,9 +8,10 @@ use Rattle.algebra.specs.Vector.{V3, dot}
 use Rattle.solid.specs.Lists.{In, Distinct}
 use Rattle.solid.specs.Faces.{Corner, Ring, Edge, edges, allEdges, count, keptVolume, edgeSum}
 use Rattle.solid.specs.Rules.{Proper, corners, Agree, Enterable, Consistent}
-use Rattle.solid.specs.Roll.{Call, enter, ask, clear, After, Rolls}
+use Rattle.solid.specs.Roll.{Call, enter, check, ask, certify, clear, After, Rolls}
 use Rattle.solid.proofs.Members.{in-append, in-left, in-right, distinct-append, edges-once, allEdges-append, corners-append}
 use Rattle.solid.proofs.Counting.{counts-agree}
+use Rattle.solid.proofs.Meanings.{gives-one}
 
 -- ---- consistent faces
 pub consistent-none : Consistent []
@@ -42,7 +43,9 @@ rolls-consistent [] fs e = subst Consistent (sym e) consistent-none
 rolls-consistent (enter r ∷ cs) fs h =
     let old = rolls-consistent cs (h .0) (h .1) in
     elim (h .2) [ inl t ↦ subst Consistent (sym (t .1)) (consistent-more (h .0) r old (t .0)) | inr t ↦ subst Consistent (sym (t .1)) old ]
+rolls-consistent (check m ∷ cs) fs h = elim (h .2) [ inl t ↦ t .1 .consistent | inr t ↦ subst Consistent (sym (t .1)) consistent-none ]
 rolls-consistent (ask ∷ cs) fs h = subst Consistent (sym (h .2)) (rolls-consistent cs (h .0) (h .1))
+rolls-consistent (certify ∷ cs) fs h = subst Consistent (sym (h .2)) (rolls-consistent cs (h .0) (h .1))
 rolls-consistent (clear ∷ cs) fs h = subst Consistent (sym (h .2)) consistent-none
 
 -- after every list of calls the roll counts from each point the kept volume less q · edge sum
@@ -55,7 +58,12 @@ after-one (enter r) old fs gs (inl p) (inl q) = p .1 ∙ sym (q .1)
 after-one (enter r) old fs gs (inl p) (inr q) = absurd (q .0 (p .0))
 after-one (enter r) old fs gs (inr p) (inl q) = absurd (p .0 (q .0))
 after-one (enter r) old fs gs (inr p) (inr q) = p .1 ∙ sym (q .1)
+after-one (check m) old fs gs (inl p) (inl q) = gives-one m fs gs (p .0) (q .0)
+after-one (check m) old fs gs (inl p) (inr q) = absurd (q .0 fs p)
+after-one (check m) old fs gs (inr p) (inl q) = absurd (p .0 gs q)
+after-one (check m) old fs gs (inr p) (inr q) = p .1 ∙ sym (q .1)
 after-one ask old fs gs p q = p ∙ sym q
+after-one certify old fs gs p q = p ∙ sym q
 after-one clear old fs gs p q = p ∙ sym q
 
 -- calls make one roll

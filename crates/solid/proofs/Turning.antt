@@ -2,17 +2,17 @@
 use mathlib.Core.Path.{_≡_, refl, sym, _∙_, ap, ap₂, subst, subst₂}
 use mathlib.Core.Logic.{inl, inr}
 use mathlib.Core.List.{List, [], _∷_, _++_, map, reverse, reverse-cons, append-nil, map-append, List·Permᴰ·nil, List·Permᴰ·cons, List·Permᴰ·swap, List·Permᴰ·trans, Permᴰ·refl, Permᴰ·symm, Permᴰ·append-right}
-use lib.IntN.{ℤ, pos, negℤ, _+ℤ_, _-ℤ_, negℤ-+ℤ}
-use Rattle.algebra.specs.Vector.{V3, null, _+ᵛ_, _-ᵛ_, negᵛ, dot, cross}
+use lib.IntN.{ℤ, negℤ, _+ℤ_, negℤ-+ℤ}
+use Rattle.algebra.specs.Vector.{V3, _+ᵛ_, negᵛ, dot}
 use Rattle.algebra.proofs.Ring.{⊝}
 use Rattle.algebra.proofs.Vectors.{𝐚, 𝐛, 𝐜, _+ᴱ_, negᴱ, dotᴱ, by-ring, by-ringᵛ, sub-dot, cross-turns}
 use Rattle.algebra.proofs.Orders.{equal-from-difference}
-use Rattle.solid.specs.Lists.{total, In, Distinct}
+use Rattle.solid.specs.Lists.{In, Distinct}
 use Rattle.solid.specs.Faces.{Corner, Ring, Edge, flip, steps, edges, allEdges, span, spans, D, start, keptVolume, edgeSum, reversed}
 use Rattle.solid.specs.Rules.{Flat}
 use Rattle.solid.specs.Reversal.{Negates}
 use Rattle.solid.proofs.Counting.{base, kept-is, edge-sum-is-whole}
-use Rattle.solid.proofs.Members.{in-append, in-map}
+use Rattle.solid.proofs.Members.{in-append}
 use Rattle.solid.proofs.Perms.{Mixed, mixed-both, mixed-turn, distinct-mixed}
 
 -- ---- edges of a ring that is begun elsewhere, or turned round

@@ -18,11 +18,11 @@ abbrev pub Entry : Type 0
 Entry = Result (Unit {0}) ShapeFault
 
 -- the answer is this fault, and its number is n
-abbrev pub Refused : ℕ → ShapeFault → Entry → Type 0
+abbrev pub Refused : {A : Type 0} → ℕ → ShapeFault → Result A ShapeFault → Type 0
 Refused n f x = (x ≡ Err f) × (shapeNumber f ≡ n)
 
 -- a test: where P fails, what `fail` says, and else what the tests after it say
-abbrev pub Or-else : Type 0 → (Entry → Type 0) → (Entry → Type 0) → Entry → Type 0
+abbrev pub Or-else : {A : Type 0} → Type 0 → (Result A ShapeFault → Type 0) → (Result A ShapeFault → Type 0) → Result A ShapeFault → Type 0
 Or-else P fail after x = ((P → ⊥) × fail x) ⊎ (P × after x)
 
 -- a corner meets its rules alone, against the faces and against the corners before it

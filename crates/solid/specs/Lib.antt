@@ -2,6 +2,11 @@ pub mod Lists
 pub mod Faces
 pub mod Rules
 pub mod Entering
+pub mod Soundness
+pub mod Certifying
+pub mod Sources
+pub mod Checking
+pub mod Alike
 pub mod Roll
 pub mod Corners
 pub mod Reversal

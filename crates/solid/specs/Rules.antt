@@ -87,3 +87,8 @@ pub record Consistent (fs : List Ring) : Type 0 where
   pub agree : (a b : Corner) → In a (corners fs) → In b (corners fs) → Agree a b
   pub once : Distinct (allEdges fs)
   pub limits : Limits fs
+
+-- each of some faces may be entered after fs and those before it
+abbrev pub InTurn : List Ring → List Ring → Type 0
+InTurn fs [] = Unit {0}
+InTurn fs (r ∷ rs) = Enterable fs r × InTurn (fs ++ r ∷ []) rs
