@@ -49,22 +49,20 @@ fn show_answers(rt: &LibcRuntime, all: Answers) -> io::Result<()> {
 fn show_fault(rt: &LibcRuntime, fault: ShapeFault) -> io::Result<()> {
     let number = fault.number();
     match fault {
-        ShapeFault::Corner { face, key } => println!(
-            rt,
-            "  refused: fault {number} at face {face}, key {key}"
-        ),
-        ShapeFault::EdgeTwice { face, from, to } => println!(
-            rt,
-            "  refused: fault {number} at face {face}, edge {from} to {to}"
-        ),
+        ShapeFault::Corner { face, key } => {
+            println!(rt, "  refused: fault {number} at face {face}, key {key}")
+        }
+        ShapeFault::EdgeTwice { face, from, to } => {
+            println!(
+                rt,
+                "  refused: fault {number} at face {face}, edge {from} to {to}"
+            )
+        }
         ShapeFault::CornerCount { face }
         | ShapeFault::NotPlanar { face }
         | ShapeFault::Crossing { face }
-        | ShapeFault::Full { face }
-        | ShapeFault::Source { face, .. } => println!(
-            rt,
-            "  refused: fault {number} at face {face}"
-        ),
+        | ShapeFault::Full { face } => println!(rt, "  refused: fault {number} at face {face}"),
+        _ => println!(rt, "  refused: fault {number}"),
     }
 }
 

@@ -6,6 +6,7 @@ use index::index::Index;
 mod calls;
 mod questions;
 
+// A hull: the faces of a solid, entered one after the other, which need not be closed yet.
 #[derive(Drop)]
 pub struct Hull {
     index: Index,
