@@ -1,1 +1,2 @@
 pub mod Vector
+pub mod Segments

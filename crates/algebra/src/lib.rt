@@ -1,1 +1,1 @@
-// Vectors of three integers and a ring normaliser, for the proofs of the crates above: definitions and lemmas, no code.
+// Vectors of three integers, where segments meet, and a ring normaliser, for the proofs of the crates above: definitions and lemmas, no code.

@@ -9,7 +9,7 @@ use lib.ListN.{length}
 use Rattle.std.proofs.shelf.Lists.{length-map}
 use Rattle.std.specs.shelf.Lists.{kept-by}
 use Rattle.algebra.specs.Vector.{vector, _+ᵛ_, dot}
-use Rattle.index.specs.Growth.{Reverses}
+use Rattle.tracking.specs.Growth.{Reverses}
 use Rattle.ring.proofs.Places.{no-reverse}
 use Rattle.solid.specs.Corners.{cornerOf, ringOf}
 use Rattle.solid.specs.Faces.{Ring, Edge, flip, edges, allEdges, D, start, sameEdge, openEdges, keptVolume, edgeSum}

@@ -15,7 +15,7 @@ use Rattle.solid.proofs.Turning.{negates}
 use Rattle.hull.specs.Law.{CountsFromEvery, Law}
 use Rattle.hull.specs.Meaning.{facesOf, answeredVolume, answeredEdgeSum}
 use Rattle.hull.specs.declared.hull.Hull.{Hull}
-use Rattle.index.proofs.Props.{kept-out}
+use Rattle.tracking.proofs.Props.{kept-out}
 use Rattle.hull.proofs.Props.{counted-out}
 
 -- the faces of a hull are consistent

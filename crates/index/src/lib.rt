@@ -1,2 +1,2 @@
-// Faces with an index: what is entered is tested against it, and found in it by binary search.
+// Faces with an index: what is entered is tested against it, and found in it by halving sorted tables.
 pub mod index;

@@ -9,7 +9,7 @@ use Rattle.std.specs.Orderings.{Decides}
 use Rattle.algebra.specs.Vector.{V3}
 use Rattle.algebra.proofs.Ring.{con}
 use Rattle.algebra.proofs.Vectors.{𝐚, 𝐛, _+ᴱ_, _-ᴱ_, scaleᴱ, by-ringᵛ}
-use Rattle.space.specs.Segments.{Meets, OnlyCorner}
+use Rattle.algebra.specs.Segments.{Meets, OnlyCorner}
 use Rattle.ring.specs.Places.{Clear}
 use Rattle.solid.specs.Faces.{Corner}
 

@@ -6,7 +6,7 @@ use lib.Dec.{eqb}
 use lib.IntN.{pos}
 use lib.ListN.{length}
 use Rattle.algebra.specs.Vector.{null, _-ᵛ_, dot, Inside}
-use Rattle.space.specs.Segments.{Meets}
+use Rattle.algebra.specs.Segments.{Meets}
 use Rattle.solid.specs.Lists.{In, Distinct, kinds}
 use Rattle.solid.specs.Faces.{Corner, Ring, Edge, edges, allEdges, D, start}
 

@@ -1,6 +1,6 @@
 // Tests of segments between positions whose coordinates lie within ±50,000: exact, with no rounding.
 ghost use Rattle.algebra.specs.Vector.{vector, Inside, Small};
-ghost use Rattle.space.specs.Segments.{Meets, OnlyCorner, On, EndOn, Shared, Crossing};
+ghost use Rattle.algebra.specs.Segments.{Meets, OnlyCorner, On, EndOn, Shared, Crossing};
 ghost use Rattle.std.specs.Orderings.{Decides};
 use crate::vector::cross;
 use crate::vector::difference;

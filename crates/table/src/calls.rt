@@ -14,7 +14,7 @@ use std::alloc::Global;
 use std::cmp::Ordering;
 
 // Where the key stands, or else where it would go: halves what may hold it.
-fn search<K: Rank, V>(entries: &[Entry<K, V>], key: &K) -> Result<usize, usize>
+fn locate<K: Rank, V>(entries: &[Entry<K, V>], key: &K) -> Result<usize, usize>
     ensures within { λ r. ⌜ Within (length (now (entries .entry))) r ⌝ }
     ensures located { λ r. ⌜ (Rising (ranks (K·Rank .rank) (now (entries .entry))) → Located (ranks (K·Rank .rank) (now (entries .entry))) (K·Rank .rank (now (key .entry))) r) ⌝ }
 {
@@ -51,7 +51,7 @@ impl<K: Rank + Drop, V: Copy> Table<K, V> {
     pub fn find(&self, key: &K) -> Option<V>
         ensures { λ r. ⌜ ((ps : List (ℕ × V)) → Holds (K·Rank .rank) (now (self .entry)) ps → r ≡ lookup ps (K·Rank .rank (now (key .entry)))) ⌝ }
     {
-        match search(self.entries.as_slice(), key) {
+        match locate(self.entries.as_slice(), key) {
             Ok(at) => Some(self.entries[at].value),
             Err(_) => None,
         }
@@ -61,7 +61,7 @@ impl<K: Rank + Drop, V: Copy> Table<K, V> {
     pub fn insert(&mut self, key: K, value: V) -> bool
         ensures { λ r. ⌜ Inserted (K·Rank .rank) (now (self .entry)) (K·Rank .rank key) value (now (self .exit)) r ⌝ }
     {
-        let Err(at) = search(self.entries.as_slice(), &key) else {
+        let Err(at) = locate(self.entries.as_slice(), &key) else {
             return true;
         };
         if self.len() == self.entries.capacity() {

@@ -1,7 +1,7 @@
 // The tests of entering a ring, each decided exactly.
 ghost use Prim.Native.Nat.{_+_, _<_, _≤_, _^_};
 ghost use Rattle.index.specs.Meaning.{facesOf};
-ghost use Rattle.index.specs.Tests.{Apart, AgreesWith, FirstRepeated, Tested};
+ghost use Rattle.tracking.specs.Tests.{Apart, AgreesWith, FirstRepeated, Tested};
 ghost use Rattle.ring.specs.Places.{corner};
 ghost use Rattle.solid.specs.Corners.{cornerOf, ringOf};
 ghost use Rattle.solid.specs.Entering.{Allowed, AllAllowed, FirstMisfit};

@@ -1,7 +1,7 @@
 // What a face that has passed the tests adds to the tables.
 ghost use Prim.Native.Nat.{ℕ, _+_, _≤_};
-ghost use Rattle.index.specs.Growth.{Grows, Reverses};
-ghost use Rattle.index.specs.Tables.{keyPairs, positionPairs, edgePairs};
+ghost use Rattle.tracking.specs.Growth.{Grows, Reverses};
+ghost use Rattle.tracking.specs.Tables.{keyPairs, positionPairs, edgePairs};
 ghost use Rattle.index.specs.Meaning.{facesOf};
 ghost use Rattle.solid.specs.Corners.{ringOf};
 ghost use Rattle.solid.specs.Entering.{AllAllowed};

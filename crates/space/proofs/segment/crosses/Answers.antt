@@ -10,8 +10,8 @@ use Rattle.std.proofs.shelf.Signed.{toZ-ofZ}
 use Rattle.std.specs.Orderings.{Decides}
 use Rattle.algebra.specs.Vector.{vector, dot}
 use Rattle.algebra.proofs.Bounds.{within-more}
-use Rattle.space.specs.Segments.{Shared}
-use Rattle.space.proofs.Sizes.{cross-large}
+use Rattle.algebra.specs.Segments.{Shared}
+use Rattle.algebra.proofs.Sizes.{cross-large}
 use Rattle.space.proofs.segment.crosses.Needs as need
 
 pub dot-wide-requires : need.dot-wide-requires

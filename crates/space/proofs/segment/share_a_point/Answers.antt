@@ -4,9 +4,9 @@ use mathlib.Core.Bool.{Bool}
 use Rattle.std.specs.Orderings.{Decides}
 use Rattle.std.proofs.shelf.Ways.{not-from-decides, decides-like}
 use Rattle.algebra.specs.Vector.{V3, vector, cross}
-use Rattle.space.specs.Segments.{Crossing}
-use Rattle.space.proofs.Crossings.{crossing, crossing-meets}
-use Rattle.space.proofs.Parallels.{meets-end, end-meets}
+use Rattle.algebra.specs.Segments.{Crossing}
+use Rattle.algebra.proofs.Crossings.{crossing, crossing-meets}
+use Rattle.algebra.proofs.Parallels.{meets-end, end-meets}
 use Rattle.space.proofs.segment.share_a_point.Needs as need
 
 pub returns-then-is-zero : need.returns-then-is-zero

@@ -11,7 +11,7 @@ use mathlib.Core.Bool.{true, not}
 use Rattle.std.proofs.shelf.Signed.{by-ltZ}
 use Rattle.std.proofs.shelf.Ways.{not-from-decides}
 use Rattle.algebra.specs.Vector.{vector, cross, dot}
-use Rattle.space.proofs.Corners.{only-bent, only-opposite, not-only}
+use Rattle.algebra.proofs.Corners.{only-bent, only-opposite, not-only}
 use Rattle.space.proofs.segment.share_only_the_corner.Needs as need
 
 pub returns-then-not-is-zero : need.returns-then-not-is-zero

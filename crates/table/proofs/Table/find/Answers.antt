@@ -1,4 +1,4 @@
--- What `search` locates is what a look-up finds.
+-- What `locate` finds is what a look-up finds.
 use mathlib.Core.Path.{sym, ap, _∙_}
 use native.Mathlib.Omega.{arith}
 use Rattle.std.specs.Of.Vec.{vec-items}

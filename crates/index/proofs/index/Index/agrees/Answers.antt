@@ -2,10 +2,10 @@ use mathlib.Core.Path.{_≡_, sym, ap, subst}
 use mathlib.Core.Bool.{Bool, true, false, not}
 use Rattle.std.specs.Orderings.{Decides}
 use Rattle.index.specs.Meaning.{facesOf}
-use Rattle.index.specs.Tests.{AgreesWith}
+use Rattle.tracking.specs.Tests.{AgreesWith}
 use Rattle.solid.specs.Corners.{cornerOf}
-use Rattle.index.proofs.Finds.{agrees-some, agrees-none}
-use Rattle.index.proofs.Props.{kept-out}
+use Rattle.tracking.proofs.Finds.{agrees-some, agrees-none}
+use Rattle.tracking.proofs.Props.{kept-out}
 use Rattle.index.proofs.index.Index.agrees.Needs as need
 
 pub returns-in-Some : need.returns-in-Some

@@ -1,6 +1,6 @@
 use native.Mathlib.Omega.{arith}
-use Rattle.index.proofs.Empty.{empty-kept, rings-none}
-use Rattle.index.proofs.Props.{kept-out}
+use Rattle.tracking.proofs.Empty.{empty-kept, rings-none}
+use Rattle.tracking.proofs.Props.{kept-out}
 use Rattle.index.proofs.index.Index.clear.Needs as need
 
 pub ghost-self : need.ghost-self

@@ -1,5 +1,5 @@
 use mathlib.Core.Path.{sym, _∙_}
-use Rattle.index.proofs.Keys.{edge-total}
+use Rattle.tracking.proofs.Keys.{edge-total}
 use Rattle.index.proofs.index.Index.edge_count.Needs as need
 
 pub returns : need.returns

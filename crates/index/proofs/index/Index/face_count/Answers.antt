@@ -1,5 +1,5 @@
 use mathlib.Core.Path.{sym, _∙_}
-use Rattle.index.proofs.Keys.{face-total}
+use Rattle.tracking.proofs.Keys.{face-total}
 use Rattle.index.proofs.index.Index.face_count.Needs as need
 
 pub returns : need.returns

@@ -5,8 +5,8 @@ use Rattle.std.proofs.shelf.Lists.{length-map}
 use Rattle.std.proofs.shelf.Tests.{false≢true, le-leb, leb-true}
 use Rattle.solid.specs.Corners.{cornerOf, ringOf}
 use Rattle.index.specs.Meaning.{facesOf}
-use Rattle.index.proofs.Keys.{key-size, edge-total, face-total, edges-more, faces-more}
-use Rattle.index.proofs.Props.{kept-out}
+use Rattle.tracking.proofs.Keys.{key-size, edge-total, face-total, edges-more, faces-more}
+use Rattle.tracking.proofs.Props.{kept-out}
 use Rattle.index.proofs.index.Index.has_room.Needs as need
 
 pub returns-then-len-ge-FACES : need.returns-then-len-ge-FACES

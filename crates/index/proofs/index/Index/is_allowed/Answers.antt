@@ -2,7 +2,7 @@ use mathlib.Core.Logic.{inr}
 use Rattle.std.proofs.shelf.Ways.{not-from-decides}
 use Rattle.std.proofs.shelf.Tests.{false≢true}
 use Rattle.index.specs.Meaning.{facesOf}
-use Rattle.index.proofs.Allowed.{allowed-from, allowed-apart}
+use Rattle.tracking.proofs.Allowed.{allowed-from, allowed-apart}
 use Rattle.index.proofs.index.Index.is_allowed.Needs as need
 
 pub returns-then-not-is-apart : need.returns-then-not-is-apart

@@ -1,6 +1,6 @@
 use mathlib.Core.Path.{_∙_}
-use Rattle.index.proofs.Keys.{key-size}
-use Rattle.index.proofs.Props.{kept-out}
+use Rattle.tracking.proofs.Keys.{key-size}
+use Rattle.tracking.proofs.Props.{kept-out}
 use Rattle.index.proofs.index.Index.key_count.Needs as need
 
 pub returns : need.returns

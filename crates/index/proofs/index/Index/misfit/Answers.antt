@@ -2,7 +2,7 @@ use native.Mathlib.Omega.{arith}
 use borrow.Author.Count.{below-more}
 use Rattle.std.proofs.shelf.Ways.{not-from-decides}
 use Rattle.index.specs.Meaning.{facesOf}
-use Rattle.index.proofs.Allowed.{AllowedAt, all-allowed, first-misfit}
+use Rattle.tracking.proofs.Allowed.{AllowedAt, all-allowed, first-misfit}
 use Rattle.index.proofs.index.Index.misfit.Needs as need
 
 pub returns-then-not-is-allowed : need.returns-then-not-is-allowed

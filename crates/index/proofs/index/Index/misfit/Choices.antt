@@ -1,6 +1,6 @@
 use Prim.Native.Nat.{ℕ, _<_}
 use Rattle.index.specs.Meaning.{facesOf}
-use Rattle.index.proofs.Allowed.{AllowedAt}
+use Rattle.tracking.proofs.Allowed.{AllowedAt}
 use Rattle.index.proofs.index.Index.misfit.Given as given
 
 abbrev pub Inv-loop-i : given.InvT-loop-i

@@ -1,4 +1,4 @@
-use Rattle.index.proofs.Empty.{empty-kept, rings-none}
+use Rattle.tracking.proofs.Empty.{empty-kept, rings-none}
 use Rattle.index.proofs.index.Index.new.Needs as need
 
 pub ghost-result : need.ghost-result

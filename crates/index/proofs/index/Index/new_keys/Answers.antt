@@ -12,10 +12,10 @@ use Rattle.solid.specs.Corners.{cornerOf, ringOf}
 use Rattle.solid.specs.Faces.{Corner}
 use Rattle.solid.specs.Lists.{has, kinds}
 use Rattle.solid.specs.Rules.{corners}
-use Rattle.index.specs.Tables.{keyPairs}
+use Rattle.tracking.specs.Tables.{keyPairs}
 use Rattle.index.specs.Meaning.{facesOf}
-use Rattle.index.proofs.Keys.{found-key, kinds-more, keyCount-more, keys-length, key-at}
-use Rattle.index.proofs.Props.{kept-out}
+use Rattle.tracking.proofs.Keys.{found-key, kinds-more, keyCount-more, keys-length, key-at}
+use Rattle.tracking.proofs.Props.{kept-out}
 use Rattle.index.proofs.index.Index.new_keys.Needs as need
 use Rattle.index.proofs.index.Index.new_keys.Needs.{then-is-none, else-is-none}
 

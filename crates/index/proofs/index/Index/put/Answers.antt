@@ -6,9 +6,9 @@ use Rattle.solid.specs.Corners.{cornerOf, ringOf}
 use Rattle.solid.specs.Rules.{Enterable}
 use Rattle.solid.proofs.Answered.{enter-taken}
 use Rattle.index.specs.Meaning.{facesOf}
-use Rattle.index.proofs.Grown.{rings-grown, grown}
-use Rattle.index.proofs.Keys.{edge-total}
-use Rattle.index.proofs.Props.{kept-out}
+use Rattle.tracking.proofs.Grown.{rings-grown, grown}
+use Rattle.tracking.proofs.Keys.{edge-total}
+use Rattle.tracking.proofs.Props.{kept-out}
 use Rattle.index.proofs.index.Index.put.Needs as need
 use Rattle.index.proofs.index.Index.put.Needs.{Start}
 

@@ -9,10 +9,10 @@ use Rattle.ring.specs.Places.{corner, edge}
 use Rattle.ring.proofs.Places.{edge-in}
 use Rattle.table.specs.Map.{lookup}
 use Rattle.table.specs.Rank.{pairRank}
-use Rattle.index.specs.Tables.{edgePairs}
+use Rattle.tracking.specs.Tables.{edgePairs}
 use Rattle.index.specs.Meaning.{facesOf}
-use Rattle.index.proofs.Edges.{found-edge, first-repeated, fresh-from, is-there, not-there}
-use Rattle.index.proofs.Props.{kept-out}
+use Rattle.tracking.proofs.Edges.{found-edge, first-repeated, fresh-from, is-there, not-there}
+use Rattle.tracking.proofs.Props.{kept-out}
 use Rattle.index.proofs.index.Index.repeated.Needs as need
 use Rattle.index.proofs.index.Index.repeated.Needs.{After-is-some}
 

@@ -15,10 +15,10 @@ use Rattle.ring.specs.Places.{corner, edge}
 use Rattle.ring.proofs.Places.{edges-at, edges-length, edge-in, no-edge}
 use Rattle.table.specs.Map.{lookup}
 use Rattle.table.specs.Rank.{pairRank}
-use Rattle.index.specs.Tables.{edgePairs}
+use Rattle.tracking.specs.Tables.{edgePairs}
 use Rattle.index.specs.Meaning.{facesOf}
-use Rattle.index.proofs.Edges.{found-reverse}
-use Rattle.index.proofs.Props.{kept-out}
+use Rattle.tracking.proofs.Edges.{found-reverse}
+use Rattle.tracking.proofs.Props.{kept-out}
 use Rattle.index.proofs.index.Index.reverses.Needs as need
 use Rattle.index.proofs.index.Index.reverses.Needs.{then-is-some, else-is-some}
 

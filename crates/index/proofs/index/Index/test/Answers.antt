@@ -10,9 +10,9 @@ use Rattle.solid.specs.Corners.{cornerOf, ringOf}
 use Rattle.solid.specs.Rules.{Sized, Tidy}
 use Rattle.solid.proofs.Answered.{allowed-tidy}
 use Rattle.index.specs.Meaning.{facesOf}
-use Rattle.index.proofs.Keys.{face-total}
-use Rattle.index.proofs.Props.{kept-out}
-use Rattle.index.proofs.Says.{sized, says-count, says-misfit, says-not-planar, says-crossing, says-twice, says-full, says-taken}
+use Rattle.tracking.proofs.Keys.{face-total}
+use Rattle.tracking.proofs.Props.{kept-out}
+use Rattle.tracking.proofs.Says.{sized, says-count, says-misfit, says-not-planar, says-crossing, says-twice, says-full, says-taken}
 use Rattle.index.proofs.index.Index.test.Needs as need
 use Rattle.index.proofs.index.Index.test.Needs.{After-len-face, Else-ring-gt-MOST-CORNERS, In-rest}
 

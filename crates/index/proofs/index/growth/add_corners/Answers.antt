@@ -7,9 +7,9 @@ use Rattle.std.proofs.shelf.Lists.{take-all}
 use Rattle.solid.specs.declared.Corner.{Corner as StoredCorner}
 use Rattle.ring.specs.Places.{blank}
 use Rattle.table.specs.Rank.{positionRank}
-use Rattle.index.specs.Growth.{Grows}
-use Rattle.index.specs.Tables.{keyPairs, positionPairs}
-use Rattle.index.proofs.Grows.{grows-none, grows-more, pairs-more}
+use Rattle.tracking.specs.Growth.{Grows}
+use Rattle.tracking.specs.Tables.{keyPairs, positionPairs}
+use Rattle.tracking.proofs.Grows.{grows-none, grows-more, pairs-more}
 use Rattle.index.proofs.index.growth.add_corners.Needs as need
 
 pub loop-c-again : need.loop-c-again

@@ -1,7 +1,7 @@
 use lib.ListN.{take}
 use Rattle.table.specs.Rank.{positionRank}
-use Rattle.index.specs.Growth.{Grows}
-use Rattle.index.specs.Tables.{keyPairs, positionPairs}
+use Rattle.tracking.specs.Growth.{Grows}
+use Rattle.tracking.specs.Tables.{keyPairs, positionPairs}
 use Rattle.index.proofs.index.growth.add_corners.Given as given
 
 abbrev pub Inv-loop-c : given.InvT-loop-c

@@ -9,9 +9,9 @@ use Rattle.solid.specs.Faces.{Edge, edges}
 use Rattle.ring.specs.Places.{corner, edge}
 use Rattle.ring.proofs.Places.{edges-at, edges-length, no-edge}
 use Rattle.table.specs.Rank.{pairRank}
-use Rattle.index.specs.Growth.{Grows}
-use Rattle.index.specs.Tables.{edgeRank, edgePairs}
-use Rattle.index.proofs.Grows.{grows-more, edgePairs-more}
+use Rattle.tracking.specs.Growth.{Grows}
+use Rattle.tracking.specs.Tables.{edgeRank, edgePairs}
+use Rattle.tracking.proofs.Grows.{grows-more, edgePairs-more}
 use Rattle.index.proofs.index.growth.add_edges.Needs as need
 
 pub loop-i-again : need.loop-i-again

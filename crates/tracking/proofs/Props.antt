@@ -12,7 +12,7 @@ use Rattle.std.specs.declared.option.Option.the-variants.{Some, None}
 use Rattle.faces.specs.declared.held.Faces.{Faces}
 use Rattle.solid.proofs.Props.{consistent-one}
 use Rattle.table.specs.declared.Table.{Table}
-use Rattle.index.specs.Tables.{Tracks, Kept}
+use Rattle.tracking.specs.Tables.{Tracks, Kept}
 
 -- an option is a list of at most one value, so its values are a set where those are
 module _ {A : Type 0} where

@@ -1,9 +1,9 @@
--- What `search` keeps: in rising order the key is above all before `low`, and below all from `high` on.
+-- What `locate` keeps: in rising order the key is above all before `low`, and below all from `high` on.
 use Prim.Native.Nat.{ℕ, _-_, _≤_, _<_}
 use lib.ListN.{length, getD}
 use Rattle.table.specs.Holds.{ranks}
 use Rattle.table.specs.Map.{Rising}
-use Rattle.table.proofs.calls.search.Given as given
+use Rattle.table.proofs.calls.locate.Given as given
 
 abbrev pub Inv-loop-low : given.InvT-loop-low
 Inv-loop-low g l =

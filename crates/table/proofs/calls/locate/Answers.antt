@@ -6,9 +6,9 @@ use lib.ListN.{length, getD}
 use Rattle.std.proofs.shelf.Lists.{length-map, getD-map}
 use Rattle.table.specs.Holds.{ranks}
 use Rattle.table.proofs.Entries.{all-below, all-above}
-use Rattle.table.proofs.calls.search.Given as given
-use Rattle.table.proofs.calls.search.Needs as need
-use Rattle.table.proofs.calls.search.Needs.{After-compare}
+use Rattle.table.proofs.calls.locate.Given as given
+use Rattle.table.proofs.calls.locate.Needs as need
+use Rattle.table.proofs.calls.locate.Needs.{After-compare}
 
 pub loop-low-holds : need.loop-low-holds
 loop-low-holds g c = (omega arith, omega arith, λ _. (λ k h. omega arith, λ k h l. omega (arith, length-map (c .args .entries .now) (λ e. g .K·Rank .rank (e .key)))))

@@ -7,13 +7,13 @@ use lib.IntN.{ℤ, pos, _+ℤ_, _-ℤ_, _*ℤ_, *ℤ-zero}
 use lib.Signed.{_≤ℤ_, _<ℤ_, ≤ℤ-refl}
 use borrow.Author.Differences.{ints}
 use Rattle.std.proofs.shelf.Signed.{by-ltZ}
 use Rattle.algebra.specs.Vector.{V3, null, _+ᵛ_, _-ᵛ_, negᵛ, scale, dot, cross}
 use Rattle.algebra.proofs.Ring.{Expr, var, con, _⊕_, _⊖_, _⊗_, eval, Same, combined, solve, solve-from}
 use Rattle.algebra.proofs.Vectors.{E3, 𝐚, 𝐛, 𝐜, 𝐝, nullᴱ, _+ᴱ_, _-ᴱ_, negᴱ, scaleᴱ, dotᴱ, crossᴱ, V3-path, by-ring, by-ringᵛ}
 use Rattle.algebra.proofs.Orders.{mul-mono-right, dot-not-negative, dot-zero, square-zero}
-use Rattle.space.specs.Segments.{Meets, On, EndOn, first-on, third-on, fourth-on}
-use Rattle.space.proofs.Products.{cancel-le, cancel-zero, pos-low, pos-le, pos-lt, above-zero, mix, positive-right}
-use Rattle.space.proofs.Crossings.{Ratio, ratio, meets, δ, σ, τ, 𝐧, sums, values, times}
+use Rattle.algebra.specs.Segments.{Meets, On, EndOn, first-on, third-on, fourth-on}
+use Rattle.algebra.proofs.Products.{cancel-le, cancel-zero, pos-low, pos-le, pos-lt, above-zero, mix, positive-right}
+use Rattle.algebra.proofs.Crossings.{Ratio, ratio, meets, δ, σ, τ, 𝐧, sums, values, times}
 
 -- ---- a point that lies on a segment divides it
 -- s of d along the way from a to b ends at p

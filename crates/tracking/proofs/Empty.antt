@@ -13,7 +13,7 @@ use Rattle.solid.proofs.Rolls.{consistent-none}
 use Rattle.table.specs.Holds.{Holds, sizeOf, roomOf}
 use Rattle.table.specs.Rank.{pairRank, positionRank}
 use Rattle.table.specs.declared.Table.{Table}
-use Rattle.index.specs.Tables.{keyPairs, positionPairs, edgePairs, Tracks, Kept}
+use Rattle.tracking.specs.Tables.{keyPairs, positionPairs, edgePairs, Tracks, Kept}
 
 -- an empty table with its room
 pub record Empty {K V : Type 0} (rank : K → ℕ) (t : Table K V) (room : ℕ) : Type 0 where

@@ -16,9 +16,9 @@ use Rattle.solid.proofs.Tests.{number-tells}
 use Rattle.table.specs.Holds.{sizeOf, roomOf, Inserted}
 use Rattle.table.specs.Map.{lookup}
 use Rattle.table.specs.declared.Table.{Table}
-use Rattle.index.specs.Growth.{Grows}
-use Rattle.index.specs.Tables.{Tracks, edgeRank, edgePairs}
-use Rattle.index.proofs.Keys.{found-pair}
+use Rattle.tracking.specs.Growth.{Grows}
+use Rattle.tracking.specs.Tables.{Tracks, edgeRank, edgePairs}
+use Rattle.tracking.proofs.Keys.{found-pair}
 
 module _ {K V : Type 0} (rank : K → ℕ) where
   abbrev numbers : List (ℕ × V) → List ℕ

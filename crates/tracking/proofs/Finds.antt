@@ -25,8 +25,8 @@ use Rattle.solid.proofs.Members.{in-map, ring-of}
 use Rattle.table.specs.Map.{lookup}
 use Rattle.table.specs.Rank.{fromLeast, pairRank, positionRank}
 use Rattle.table.proofs.Ranks.{Near, position-same}
-use Rattle.index.specs.Tables.{keyPairs, positionPairs}
-use Rattle.index.specs.Tests.{AgreesWith}
+use Rattle.tracking.specs.Tables.{keyPairs, positionPairs}
+use Rattle.tracking.specs.Tests.{AgreesWith}
 
 -- ---- a look-up in pairs made of a list's elements
 module _ {X V : Type 0} (f : X → ℕ) (g : X → V) where

@@ -9,7 +9,7 @@ use Rattle.solid.specs.Faces.{Ring, flip, edges, allEdges, sameEdge}
 use Rattle.solid.specs.Lists.{has, kinds}
 use Rattle.table.specs.Holds.{roomOf}
 use Rattle.table.specs.declared.Table.{Table}
-use Rattle.index.specs.Tables.{Tracks}
+use Rattle.tracking.specs.Tables.{Tracks}
 
 -- a table that tracks some pairs, with room for these after them, tracks all of them then
 abbrev pub Grows : {K V : Type 0} → (K → ℕ) → Table K V → List (ℕ × V) → Table K V → Type 0

@@ -16,7 +16,7 @@ use Rattle.solid.proofs.Members.{in-at, at-in, in-map}
 use Rattle.solid.proofs.Answered.{key-in}
 use Rattle.ring.specs.Places.{blank, corner}
 use Rattle.ring.proofs.Places.{corner-at}
-use Rattle.index.specs.Tests.{Apart, AgreesWith}
+use Rattle.tracking.specs.Tests.{Apart, AgreesWith}
 
 -- ---- one corner
 module _ (r : List StoredCorner) (i : ℕ) (i-in : i < length r) where

@@ -25,7 +25,7 @@ use Rattle.solid.proofs.Perms.{kinds-push}
 use Rattle.solid.proofs.Tests.{number-tells}
 use Rattle.ring.specs.Places.{blank}
 use Rattle.table.specs.Map.{lookup}
-use Rattle.index.specs.Tables.{keyPairs}
+use Rattle.tracking.specs.Tables.{keyPairs}
 
 -- ---- a number is found exactly where it is one of those in the pairs
 eqb-turn : (m n : ℕ) → eqb m n ≡ eqb n m

@@ -30,11 +30,11 @@ use Rattle.ring.proofs.Places.{no-reverse}
 use Rattle.table.specs.Holds.{roomOf}
 use Rattle.table.specs.Rank.{pairRank, fromLeast, positionRank}
 use Rattle.table.specs.declared.Table.{Table}
-use Rattle.index.specs.Growth.{Grows}
-use Rattle.index.specs.Tables.{keyPairs, positionPairs, edgeRank, edgePairs, Tracks, Kept}
-use Rattle.index.proofs.Finds.{held-in, rank-tells, position-inside}
-use Rattle.index.proofs.Grows.{edgePairs-append}
-use Rattle.index.proofs.Keys.{firsts, key-size, edge-total, face-total, edges-more, faces-more}
+use Rattle.tracking.specs.Growth.{Grows}
+use Rattle.tracking.specs.Tables.{keyPairs, positionPairs, edgeRank, edgePairs, Tracks, Kept}
+use Rattle.tracking.proofs.Finds.{held-in, rank-tells, position-inside}
+use Rattle.tracking.proofs.Grows.{edgePairs-append}
+use Rattle.tracking.proofs.Keys.{firsts, key-size, edge-total, face-total, edges-more, faces-more}
 
 -- ---- as many positions as keys
 module _ {X : Type 0} (f g : X → ℕ) where

@@ -5,12 +5,12 @@ use native.Mathlib.Omega.{arith}
 use lib.IntN.{ℤ, pos, negsuc, _+ℤ_, _-ℤ_, _*ℤ_, *ℤ-zero}
 use lib.Signed.{_≤ℤ_, _<ℤ_}
 use borrow.Author.Differences.{ints}
 use Rattle.algebra.specs.Vector.{V3, null, _+ᵛ_, _-ᵛ_, scale, dot, cross}
 use Rattle.algebra.proofs.Ring.{Expr, var, con, _⊕_, _⊖_, _⊗_, ⊝, eval, Same, combined, solve-from}
 use Rattle.algebra.proofs.Vectors.{E3, 𝐚, 𝐛, 𝐜, dotᴱ, crossᴱ, coords, V3-path}
 use Rattle.algebra.proofs.Orders.{mul-mono-right, mul-not-negative, dot-not-negative, dot-zero}
-use Rattle.space.specs.Segments.{Meets, Part, Crossing}
-use Rattle.space.proofs.Products.{cancel-le, cancel-zero, pos-low, pos-le, pos-lt, above-zero}
+use Rattle.algebra.specs.Segments.{Meets, Part, Crossing}
+use Rattle.algebra.proofs.Products.{cancel-le, cancel-zero, pos-low, pos-le, pos-lt, above-zero}
 
 -- ---- the equation of a shared point
 -- s of d along u ends where t of d along v does, from a start that is w away

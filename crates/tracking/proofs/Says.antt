@@ -13,7 +13,7 @@ use Rattle.solid.specs.Faces.{Corner, Ring, Edge, edges, allEdges}
 use Rattle.solid.specs.Lists.{In}
 use Rattle.solid.specs.Rules.{Sized, Planar, Simple, Fresh, Limits}
 use Rattle.solid.specs.declared.Corner.{Corner as StoredCorner}
-use Rattle.index.specs.Tests.{FirstRepeated}
+use Rattle.tracking.specs.Tests.{FirstRepeated}
 
 pub sized : (r : List StoredCorner) → 3 ≤ length r → length r ≤ 64 → Sized (ringOf r)
 sized r h k = (subst (λ n. 3 ≤ n) (sym (length-map r cornerOf)) h, subst (λ n. n ≤ 64) (sym (length-map r cornerOf)) k)

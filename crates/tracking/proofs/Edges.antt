@@ -25,8 +25,8 @@ use Rattle.ring.specs.Places.{edge}
 use Rattle.ring.proofs.Places.{edges-at, edges-length, edge-in, no-edge}
 use Rattle.table.specs.Map.{lookup}
 use Rattle.table.proofs.Ranks.{pair-same}
-use Rattle.index.specs.Tables.{edgeRank, edgePairs}
-use Rattle.index.specs.Tests.{AgreesWith}
+use Rattle.tracking.specs.Tables.{edgeRank, edgePairs}
+use Rattle.tracking.specs.Tests.{AgreesWith}
 
 -- an edge whose rank tells it from each of some others is found exactly where it is one of them
 pub found-is : (e : Edge) (i : ℕ) (es : List Edge) → ((x : Edge) → In x es → edgeRank x ≡ edgeRank e → x ≡ e) → isSome (lookup (edgePairs i es) (edgeRank e)) ≡ has sameEdge e es

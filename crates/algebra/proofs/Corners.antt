@@ -8,14 +8,14 @@ use lib.IntN.{ℤ, pos, _+ℤ_, _-ℤ_, _*ℤ_}
 use lib.Signed.{_≤ℤ_, _<ℤ_, ≤ℤ-refl}
 use borrow.Author.Differences.{ints}
 use Rattle.std.proofs.shelf.Signed.{by-ltZ}
 use Rattle.algebra.specs.Vector.{V3, null, _-ᵛ_, negᵛ, scale, dot, cross}
 use Rattle.algebra.proofs.Ring.{Expr, var, con, _⊕_, _⊖_, _⊗_, solve-from}
 use Rattle.algebra.proofs.Vectors.{𝐚, 𝐛, nullᴱ, negᴱ, scaleᴱ, dotᴱ, crossᴱ, V3-path, by-ring, by-ringᵛ}
 use Rattle.algebra.proofs.Orders.{≤ℤ-antisym, mul-not-negative, dot-not-negative, dot-zero}
-use Rattle.space.specs.Segments.{Meets, OnlyCorner}
-use Rattle.space.proofs.Products.{mul-zero, no-factor, pos-low}
-use Rattle.space.proofs.Crossings.{Ratio, ratio, Made, made}
-use Rattle.space.proofs.Parallels.{proportional, same-line}
+use Rattle.algebra.specs.Segments.{Meets, OnlyCorner}
+use Rattle.algebra.proofs.Products.{mul-zero, no-factor, pos-low}
+use Rattle.algebra.proofs.Crossings.{Ratio, ratio, Made, made}
+use Rattle.algebra.proofs.Parallels.{proportional, same-line}
 
 -- ---- the equation, seen from b: k of d towards a is where t of d towards c is
 abbrev towards : Expr
