@@ -7,7 +7,7 @@
 --     fits            no overflow, for a need such as `mul-result` or `sub-result`
 --     stored          the value, for `returns`
 --     cast-fits, cast-stored    the same where all operands are of another width u and cast to w
---     near-cast, read-back      for one such operand among others
+--     read-back       the value of one such operand among others
 
 use mathlib.Core.Path.{_≡_, refl, sym, ap, ap₂, subst, _∙_}
 use mathlib.Core.List.{List, [], _∷_}
@@ -60,12 +60,6 @@ pub data Bounded : List ℤ → List ℕ → Type 0 where
 -- ---- the bound of each operation
 pub near : (n : ℕ) (k : ℤ) → negℤ (pos n) ≤ℤ k → k ≤ℤ pos n → Near n k
 near n k l h = record { abs = omega (arith, ints) }
-
-pub near-low : (n : ℕ) (k : ℤ) → Near n k → negℤ (pos n) ≤ℤ k
-near-low n k h = omega (arith, ints, h .abs)
-
-pub near-high : (n : ℕ) (k : ℤ) → Near n k → k ≤ℤ pos n
-near-high n k h = omega (arith, ints, h .abs)
 
 -- a wider bound: `near-more tt h`
 pub near-more : {m n : ℕ} {k : ℤ} → T (leb m n) → Near m k → Near n k
@@ -163,9 +157,6 @@ module _ (w : Width) {ρ : List ℤ} {βs : List ℕ} (bounded : Bounded ρ βs)
 -- ---- one operand of another width u, which the code casts: as a variable it has the value `toZ u (ofZ u k)`
 pub read-back : (u : Width) {β : ℕ} {k : ℤ} → T (ltb β (2 ^ hbits u)) → Near β k → toZ u (ofZ u k) ≡ k
 read-back u {β} {k} t h = toZ-ofZ (abs-fits u k β (h .abs) t)
-
-pub near-cast : (u : Width) {β : ℕ} {k : ℤ} → T (ltb β (2 ^ hbits u)) → Near β k → Near β (toZ u (ofZ u k))
-near-cast u {β} t h = subst (Near β) (sym (read-back u t h)) h
 
 -- ---- all operands of another width: each variable is read at the width u and cast to w, as in `a as i128 * b as i128`
 abbrev pub cast : Width → List ℤ → List ℤ

@@ -15,9 +15,6 @@ use Rattle.algebra.proofs.Ring.{var, _⊖_, _⊗_, solve}
 use Rattle.algebra.proofs.Vectors.{V3-path}
 
 -- ---- the order
-pub ≤ℤ-trans : (a b c : ℤ) → a ≤ℤ b → b ≤ℤ c → a ≤ℤ c
-≤ℤ-trans a b c h k = omega (arith, ints)
-
 pub ≤ℤ-antisym : (a b : ℤ) → a ≤ℤ b → b ≤ℤ a → a ≡ b
 ≤ℤ-antisym a b h k = omega (arith, ints)
 

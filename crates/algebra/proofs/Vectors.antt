@@ -86,9 +86,6 @@ abbrev pub 𝐝 : E3
 𝐝 = vec 3
 
 -- ---- identities, each by the normaliser
-pub dot-comm : (a b : V3) → dot a b ≡ dot b a
-dot-comm a b = by-ring (a ∷ b ∷ []) (dotᴱ 𝐚 𝐛) (dotᴱ 𝐛 𝐚) tt
-
 pub dot-null : (a : V3) → dot a null ≡ pos 0
 dot-null a = by-ring (a ∷ []) (dotᴱ 𝐚 nullᴱ) (con (pos 0)) tt
 

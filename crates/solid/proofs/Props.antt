@@ -70,6 +70,3 @@ consistent-one fs p q = λ i. record {
   once = distinct-one _ (p .once) (q .once) i;
   limits = limits-one fs (p .limits) (q .limits) i;
 }
-
-pub consistent-out : (fs : List Ring) → ∥ Consistent fs ∥₁ → Consistent fs
-consistent-out fs t = ∥∥₁-elim t (consistent-one fs) (λ h. h)
