@@ -1,4 +1,6 @@
 // Whether the faces round each key form one cycle. Each edge is stepped over once, and its reverse found by halving.
+#![tactic(auto)]
+
 ghost use Rattle.std.specs.Prelude.{◌<◌, length, MatchOption};
 ghost use Rattle.index.specs.Meaning.{faces_of};
 ghost use Rattle.marks.specs.Bits.{members, Held};

@@ -1,4 +1,6 @@
 // Follows one task through the library from beginning to end, and prints what it did.
+#![tactic(auto)]
+
 use fault::shape::ShapeFault;
 use hull::hull::Hull;
 use solid::Corner;

@@ -1,4 +1,6 @@
 // Tests of the hull: each rule at its limit and just past it, with values worked out by hand.
+#![tactic(auto)]
+
 #[cfg(test)]
 mod corners;
 #[cfg(test)]

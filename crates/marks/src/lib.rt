@@ -1,4 +1,6 @@
 // A set of numbers below 64 · N, in the bits of N words.
+#![tactic(auto)]
+
 ghost use Rattle.std.specs.Prelude.{◌≡◌, ℕ, ◌*◌, ◌^◌, ◌<◌, true, false, length, set, slice_index_or, slice_set};
 ghost use Rattle.marks.specs.Bits.{members, ones_of};
 

@@ -1,4 +1,6 @@
 // Whether the first face reaches every face over shared edges. Each edge is crossed once, and its reverse found by halving.
+#![tactic(auto)]
+
 ghost use Rattle.std.specs.Prelude.{◌<◌, length, Decides};
 ghost use Rattle.index.specs.Meaning.{faces_of};
 ghost use Rattle.reach.specs.Sets.{Expanded};

@@ -1,4 +1,6 @@
 // Tests of a ring of corners: D, whether the ring is planar, and whether it is free of crossings.
+#![tactic(auto)]
+
 ghost use Rattle.std.specs.Prelude.{◌≡◌, ◌<◌, Decides};
 ghost use Rattle.algebra.specs.Vector.{vector, Inside, Large};
 ghost use Rattle.ring.specs.Places.{Clear, following as following-of};

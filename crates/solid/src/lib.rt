@@ -1,5 +1,6 @@
 // The geometry of flat-faced solids: what corners, faces and hulls are, the rules that they keep, and the theory of their counting.
 // Definitions and lemmas for the crates above; the one item of code is the corner.
+#![tactic(auto)]
 
 // A corner of a face: a key, and a position in hundredths of a millimetre.
 #[derive(Clone, Copy, Debug)]

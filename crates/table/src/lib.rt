@@ -1,4 +1,6 @@
 // A sorted table with its room reserved, seen as a finite map.
+#![tactic(auto)]
+
 mod calls;
 pub mod rank;
 
