@@ -105,7 +105,7 @@ Same e f = T (vanishes (norm (e ⊖ f)))
 -- the sum of k (l - r) over the entries (k, l, r)
 abbrev pub combined : List (Expr × Expr × Expr) → Expr
 combined [] = con (pos 0)
-combined (h ∷ hs) = h.0 ⊗ (h.1 ⊖ h).2 ⊕ combined hs
+combined (h ∷ hs) = h.0 ⊗ (h.1 ⊖ h.2) ⊕ combined hs
 
 -- ---- its value
 abbrev pub monomial : List ℤ → List ℕ → ℤ

@@ -17,12 +17,12 @@ none_to_reach [] e = tt
 none_to_reach (r ∷ rs) e = absurd (omega arith)
 
 pub returns-then-faces-eq0 : goal.returns-then-faces-eq0
-returns-then-faces-eq0 c = (λ _. none_to_reach (faces_of c.args.index.now) (sym c.face-count-faces.ensures ∙ c.if-faces-eq0.true), λ _. refl)
+returns-then-faces-eq0 c = (λ _. none_to_reach (faces_of c.args.index.now) (sym c.face_count-faces.ensures ∙ c.if-faces-eq0.true), λ _. refl)
 
 pub loop-done-init : goal.loop-done-init
 loop-done-init c =
     let x = c.args.index.now in
-    let some : 0 < length (faces_of x) = omega (arith, c.face-count-faces.ensures, c.if-faces-eq0.false) in (
+    let some : 0 < length (faces_of x) = omega (arith, c.face_count-faces.ensures, c.if-faces-eq0.false) in (
       reaching_none (faces_of x) (consistent x) (Has c.add.new.self) c.add.new.self.queue some c.add.ensures.here
           (λ g h. elim (c.add.ensures.only g h) [ inl e ↦ e | inr old ↦ absurd (c.none-reached.ensures.empty g old) ]),
       omega arith,
@@ -62,9 +62,9 @@ returns c =
     let fs = faces_of x in
     let r = c.loop-done.reached in
     let xs = members r.marks.words in
-    let some : 0 < length fs = omega (arith, c.face-count-faces.ensures, c.if-faces-eq0.false) in
+    let some : 0 < length fs = omega (arith, c.face_count-faces.ensures, c.if-faces-eq0.false) in
     let whole = reaching_all fs (consistent x) (Has r) r.queue c.loop-done.done some c.loop-done.invariant.0 (λ g h. (let k = queued r g h in (k.0, omega (arith, k.1, c.loop-done-test.false, c.len.ensures), k.2))) in
     let below : (g : ℕ) → Has r g → g < length fs = λ g h. (c.loop-done.invariant.0.walk g h).0 in (
-      λ t. whole.1 (ones_full xs (length fs) below (sym c.count.ensures ∙ eqb-true _ _ t ∙ c.face-count-faces.ensures)),
-      λ from. eq-eqb _ _ (c.count.ensures ∙ ones_all xs (length fs) below (whole.0 from) ∙ sym c.face-count-faces.ensures),
+      λ t. whole.1 (ones_full xs (length fs) below (sym c.count.ensures ∙ eqb-true _ _ t ∙ c.face_count-faces.ensures)),
+      λ from. eq-eqb _ _ (c.count.ensures ∙ ones_all xs (length fs) below (whole.0 from) ∙ sym c.face_count-faces.ensures),
     )

@@ -32,7 +32,7 @@ pub loop-corner-preserved : goal.loop-corner-preserved
 loop-corner-preserved c =
     let r = c.args.ring.now in
     below_more (λ i. dot ((corner r i).position -ᵛ start (ring_of r)) (D (ring_of r)) ≡ pos 0) c.loop-corner.corner-index c.loop-corner.invariant
-    (sym (height_is (goal.at.loop-corner-preserved c).After-dot) ∙ no_bits c.dot.result c.dot.type-inv c.if-dot-ne0.false)
+    (sym (height_is (goal.at.loop-corner-preserved c).After-dot) ∙ no_bits c.dot.result c.dot.type_inv c.if-dot-ne0.false)
 
 pub returns-then-dot-ne0 : goal.returns-then-dot-ne0
 returns-then-dot-ne0 c =
@@ -46,7 +46,7 @@ pub returns : goal.returns
 returns c =
     let r = c.args.ring.now in (
       λ _. (
-        λ z. not_from_Decides c.is-zero.result c.is-zero.ensures c.if-is-zero.false (c.requires.normal ∙ z),
+        λ z. not_from_Decides c.is_zero.result c.is_zero.ensures c.if-is_zero.false (c.requires.normal ∙ z),
         λ x h.
             let t = corner_from r x h in
             subst (λ y. dot (y.position -ᵛ start (ring_of r)) (D (ring_of r)) ≡ pos 0) (sym t.2) (c.loop-corner.invariant t.0 (omega (arith, t.1))),

@@ -4,8 +4,8 @@ use Rattle.marks.specs.Bits.{members, ones_of}
 use Rattle.marks.proofs.Words.{bits_count, members_more}
 use Rattle.marks.proofs.Marks.count.Goals as goal
 
-pub overflow-add-n : goal.overflow-add-n
-overflow-add-n g c =
+pub overflow_add-n : goal.overflow_add-n
+overflow_add-n g c =
     let w = get_or c.args.self.now.words c.loop-w.w-index 0 in
     let fits : w < 2 ^ 64 = search rules in
     omega (arith, ones-le 64 w fits, c.requires, c.args.self.now.long)

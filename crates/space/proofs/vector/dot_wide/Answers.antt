@@ -7,11 +7,11 @@ use Rattle.algebra.proofs.Ring.{◌⊕◌, ◌⊗◌}
 use Rattle.algebra.proofs.Vectors.{𝐚, 𝐛, dotᴱ}
 use Rattle.space.proofs.vector.dot_wide.Goals as goal
 
-pub overflow-add-result : goal.overflow-add-result
-overflow-add-result c = cast_fits w64 w128 (c.requires.0 ∷ᵛ c.requires.1 ∷ᵛ done) tt (𝐚.x ⊗ 𝐛.x ⊕ 𝐚.y ⊗ 𝐛.y) tt
+pub overflow_add-result : goal.overflow_add-result
+overflow_add-result c = cast_fits w64 w128 (c.requires.0 ∷ᵛ c.requires.1 ∷ᵛ done) tt (𝐚.x ⊗ 𝐛.x ⊕ 𝐚.y ⊗ 𝐛.y) tt
 
-pub overflow-add-result-2 : goal.overflow-add-result-2
-overflow-add-result-2 c = cast_fits w64 w128 (c.requires.0 ∷ᵛ c.requires.1 ∷ᵛ done) tt (dotᴱ 𝐚 𝐛) tt
+pub overflow_add-result-2 : goal.overflow_add-result-2
+overflow_add-result-2 c = cast_fits w64 w128 (c.requires.0 ∷ᵛ c.requires.1 ∷ᵛ done) tt (dotᴱ 𝐚 𝐛) tt
 
 pub returns : goal.returns
 returns c = cast_stored w64 w128 (c.requires.0 ∷ᵛ c.requires.1 ∷ᵛ done) tt (dotᴱ 𝐚 𝐛) tt

@@ -18,27 +18,27 @@ returns-then-len-capacity c =
     }
 
 -- the corners were taken in
-done : (c : After-unwrap) → is_ok c.extend-from-slice.result ≡ true
+done : (c : After-unwrap) → is_ok c.extend_from_slice.result ≡ true
 done c = ap is_ok c.unwrap.ensures
 
-pub invariant-of-self : goal.invariant-of-self
-invariant-of-self c =
+pub invariant_of-self : goal.invariant_of-self
+invariant_of-self c =
     let s = c.args.self.now in
     let ring = c.args.ring.now in
-    let n : vec_len c.extend-from-slice.new.self ≡ vec_len s.corners + length ring = c.extend-from-slice.ensures.len ∙ ap (λ (b : Bool). cond b (vec_len s.corners + length ring) (vec_len s.corners)) (done (goal.at.invariant-of-self c).After-unwrap) in
-    (rise_more s _ _ _ c.push-reserved.ensures.items (omega (arith, c.len.ensures, n)) (omega (arith, c.len.ensures)), tt)
+    let n : vec_len c.extend_from_slice.new.self ≡ vec_len s.corners + length ring = c.extend_from_slice.ensures.len ∙ ap (λ (b : Bool). cond b (vec_len s.corners + length ring) (vec_len s.corners)) (done (goal.at.invariant_of-self c).After-unwrap) in
+    record { rise = rise_more s _ _ _ c.push_reserved.ensures.items (omega (arith, c.len.ensures, n)) (omega (arith, c.len.ensures)) }
 
 pub returns : goal.returns
 returns c =
     let s = c.args.self.now in
     let ring = c.args.ring.now in
-    let held = c.extend-from-slice.ensures.items ∙ ap (λ (b : Bool). cond b (s.corners.items ++ ring) s.corners.items) (done (goal.at.returns c).After-unwrap) in
+    let held = c.extend_from_slice.ensures.items ∙ ap (λ (b : Bool). cond b (s.corners.items ++ ring) s.corners.items) (done (goal.at.returns c).After-unwrap) in
     record {
       answer = λ _ _ _ _ _. refl;
-      rings = rings_push s ring _ _ _ held c.push-reserved.ensures.items (omega (arith, c.len.ensures));
+      rings = rings_push s ring _ _ _ held c.push_reserved.ensures.items (omega (arith, c.len.ensures));
       corners = held;
-      room = λ faces corners room. (omega (arith, room.0, c.push-reserved.ensures.capacity), omega (arith, room.1, c.extend-from-slice.ensures.capacity));
+      room = λ faces corners room. (omega (arith, room.0, c.push_reserved.ensures.capacity), omega (arith, room.1, c.extend_from_slice.ensures.capacity));
     }
 
-pub push-reserved-requires : goal.push-reserved-requires
-push-reserved-requires c = let s = c.args.self.now in omega (arith, c.len.ensures, face_count s, c.capacity.ensures, c.if-len-capacity.false, s.ends.ok.1)
+pub push_reserved-requires : goal.push_reserved-requires
+push_reserved-requires c = let s = c.args.self.now in omega (arith, c.len.ensures, face_count s, c.capacity.ensures, c.if-len-capacity.false, s.ends.ok.1)

@@ -4,8 +4,8 @@ use Rattle.hull.proofs.Counting.{counted_none}
 use Rattle.hull.proofs.Laws.{counts_none}
 use Rattle.hull.proofs.hull.Hull.clear.Goals as goal
 
-pub invariant-of-self : goal.invariant-of-self
-invariant-of-self c = (∣ counted_none (indexed c.clear.new.self) c.clear.ensures ∣₁, tt)
+pub invariant_of-self : goal.invariant_of-self
+invariant_of-self c = record { counted = ∣ counted_none (indexed c.clear.new.self) c.clear.ensures ∣₁ }
 
 pub returns : goal.returns
 returns c =

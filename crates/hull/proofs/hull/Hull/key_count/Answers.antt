@@ -2,4 +2,4 @@ use Rattle.hull.proofs.Laws.{asked}
 use Rattle.hull.proofs.hull.Hull.key_count.Goals as goal
 
 pub returns : goal.returns
-returns c = record { value = c.key-count.ensures; law = asked c.args.self.now }
+returns c = record { value = c.key_count.ensures; law = asked c.args.self.now }

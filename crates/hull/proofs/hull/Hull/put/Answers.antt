@@ -54,11 +54,11 @@ few_reverses : (c : After-reverses-reverses) → c.reverses-reverses.result ≤ 
 few_reverses c =
     omega (arith, c.reverses-reverses.ensures, kept_short (λ (e : Edge). has same_edge (flip e) (all_edges (faces_of c.args.self.now))) (edges (ring_of c.args.ring.now)), edges_length (ring_of c.args.ring.now), length-map c.args.ring.now corner_of)
 
-pub overflow-add-self : goal.overflow-add-self
-overflow-add-self c = omega (arith, few_opens (goal.at.overflow-add-self c).Start, (tidy (goal.at.overflow-add-self c).Start).sized.1, length-map c.args.ring.now corner_of)
+pub overflow_add-self : goal.overflow_add-self
+overflow_add-self c = omega (arith, few_opens (goal.at.overflow_add-self c).Start, (tidy (goal.at.overflow_add-self c).Start).sized.1, length-map c.args.ring.now corner_of)
 
-pub overflow-mul-self : goal.overflow-mul-self
-overflow-mul-self c = omega (arith, few_reverses (goal.at.overflow-mul-self c).After-reverses-reverses, (tidy (goal.at.overflow-mul-self c).Start).sized.1, length-map c.args.ring.now corner_of)
+pub overflow_mul-self : goal.overflow_mul-self
+overflow_mul-self c = omega (arith, few_reverses (goal.at.overflow_mul-self c).After-reverses-reverses, (tidy (goal.at.overflow_mul-self c).Start).sized.1, length-map c.args.ring.now corner_of)
 
 -- what the face adds to the volume, and the volume then
 height_is : (c : After-dot-height) → c.dot-height.result ≡ dot (start (ring_of c.args.ring.now)) (D (ring_of c.args.ring.now))
@@ -72,8 +72,8 @@ bounded c t =
     ∷ᵇ record { abs = omega (arith, ap nat_abs (height_is c), h.abs, t.sized.1) }
     ∷ᵇ done
 
-pub overflow-add-self-2 : goal.overflow-add-self-2
-overflow-add-self-2 c = fits w64 (bounded (goal.at.overflow-add-self-2 c).After-dot-height (tidy (goal.at.overflow-add-self-2 c).Start)) (var 0 ⊕ var 1) tt
+pub overflow_add-self-2 : goal.overflow_add-self-2
+overflow_add-self-2 c = fits w64 (bounded (goal.at.overflow_add-self-2 c).After-dot-height (tidy (goal.at.overflow_add-self-2 c).Start)) (var 0 ⊕ var 1) tt
 
 pub plus-sum-requires : goal.plus-sum-requires
 plus-sum-requires c =
@@ -83,20 +83,19 @@ plus-sum-requires c =
 law : (c : After-put) (t : Enterable (faces_of c.args.self.now) (ring_of c.args.ring.now)) → length (open_edges_of (faces_of c.args.self.now ++ ring_of c.args.ring.now ∷ [])) + 2 * c.reverses-reverses.result ≡ length (open_edges_of (faces_of c.args.self.now)) + length c.args.ring.now
 law c t = opens_more (faces_of c.args.self.now) c.args.ring.now (consistent c.args.self.now) t c.reverses-reverses.result c.reverses-reverses.ensures
 
-pub overflow-sub-self : goal.overflow-sub-self
-overflow-sub-self c = omega (arith, law c (may (goal.at.overflow-sub-self c).Start), (counted_out c.args.self.now.counted).open_count)
+pub overflow_sub-self : goal.overflow_sub-self
+overflow_sub-self c = omega (arith, law c (may (goal.at.overflow_sub-self c).Start), (counted_out c.args.self.now.counted).open_count)
 
-pub invariant-of-self : goal.invariant-of-self
-invariant-of-self c =
+pub invariant_of-self : goal.invariant_of-self
+invariant_of-self c =
     let h = c.args.self.now in
-    let begun = (goal.at.invariant-of-self c).Start in
-    let k = counted_out h.counted in (
-      ∣ counted_more (faces_of h) c.args.ring.now (consistent h) (may begun) c.reverses-reverses.result c.reverses-reverses.ensures _ h.open_edges _ h.volume _ h.edge_sum _ c.put.ensures k
-          (omega (arith, law (goal.at.invariant-of-self c).After-put (may begun), k.open_count))
-          (stored w64 (bounded (goal.at.invariant-of-self c).After-dot-height (tidy begun)) (var 0 ⊕ var 1) tt ∙ ap (λ m. h.volume +ℤ m) (height_is (goal.at.invariant-of-self c).After-dot-height))
-          (c.plus-sum.ensures ∙ ap (λ v. vector h.edge_sum +ᵛ v) c.requires.normal) ∣₁,
-      tt,
-    )
+    let begun = (goal.at.invariant_of-self c).Start in
+    let k = counted_out h.counted in record {
+      counted = ∣ counted_more (faces_of h) c.args.ring.now (consistent h) (may begun) c.reverses-reverses.result c.reverses-reverses.ensures _ h.open_edges _ h.volume _ h.edge_sum _ c.put.ensures k
+          (omega (arith, law (goal.at.invariant_of-self c).After-put (may begun), k.open_count))
+          (stored w64 (bounded (goal.at.invariant_of-self c).After-dot-height (tidy begun)) (var 0 ⊕ var 1) tt ∙ ap (λ m. h.volume +ℤ m) (height_is (goal.at.invariant_of-self c).After-dot-height))
+          (c.plus-sum.ensures ∙ ap (λ v. vector h.edge_sum +ᵛ v) c.requires.normal) ∣₁;
+    }
 
 pub returns : goal.returns
 returns c = c.put.ensures

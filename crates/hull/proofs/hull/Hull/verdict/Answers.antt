@@ -16,21 +16,21 @@ use Rattle.hull.specs.declared.hull.Hull.{Hull}
 use Rattle.hull.proofs.Laws.{consistent}
 use Rattle.hull.proofs.hull.Hull.verdict.Goals as goal
 
-pub returns-in-err-test-closed : goal.returns-in-err-test-closed
-returns-in-err-test-closed c =
+pub returns-in_err-test_closed : goal.returns-in_err-test_closed
+returns-in_err-test_closed c =
     let fs = faces_of c.args.self.now in
     let p = err_from_is_err_and c.from-residual.result c.from-residual.ensures.1 in
-    let e = c.in-err-test-closed.ensures in
+    let e = c.in_err-test_closed.ensures in
     rw (p.1, p.2) (subst (λ (f : ShapeFault). CertifySays fs (Err f)) (sym e.2) (says_open fs e.0 e.1))
 
-pub broken-key-requires : goal.broken-key-requires
-broken-key-requires c = c.in-ok-test-closed.ensures
+pub broken_key-requires : goal.broken_key-requires
+broken_key-requires c = c.in_ok-test_closed.ensures
 
 pub returns-in-Some : goal.returns-in-Some
-returns-in-Some c = says_key_cycle (faces_of c.args.self.now) c.in-ok-test-closed.ensures c.in-Some.key c.in-Some.ensures
+returns-in-Some c = says_key_cycle (faces_of c.args.self.now) c.in_ok-test_closed.ensures c.in-Some.key c.in-Some.ensures
 
-pub returns-then-not-is-connected : goal.returns-then-not-is-connected
-returns-then-not-is-connected c = says_disconnected (faces_of c.args.self.now) c.in-ok-test-closed.ensures c.in-default.ensures (not_from_Decides c.is-connected.result c.is-connected.ensures c.if-not-is-connected.true)
+pub returns-then-not-is_connected : goal.returns-then-not-is_connected
+returns-then-not-is_connected c = says_disconnected (faces_of c.args.self.now) c.in_ok-test_closed.ensures c.in_default.ensures (not_from_Decides c.is_connected.result c.is_connected.ensures c.if-not-is_connected.true)
 
 -- the volume is read as it was answered, since it fits 64 bits
 volume_is : (h : Hull) (v : ℤ) → v ≡ kept_volume_of (faces_of h) → to_z w64 (of_z w64 v) ≡ kept_volume_of (faces_of h)
@@ -45,16 +45,16 @@ large v l = lt_z_no (subst (λ b. T (not b)) (sym l) tt)
 pub returns-then-volume-lt1 : goal.returns-then-volume-lt1
 returns-then-volume-lt1 c =
     let h = c.args.self.now in
-    says_no_volume (faces_of h) c.in-ok-test-closed.ensures c.in-default.ensures (c.is-connected.ensures.0 c.if-not-is-connected.false)
-    (λ l. too_small _ c.if-volume-lt1.true (subst (λ v. pos 1 ≤ℤ v) (sym (volume_is h _ c.kept-volume-volume.ensures.value.0)) l))
+    says_no_volume (faces_of h) c.in_ok-test_closed.ensures c.in_default.ensures (c.is_connected.ensures.0 c.if-not-is_connected.false)
+    (λ l. too_small _ c.if-volume-lt1.true (subst (λ v. pos 1 ≤ℤ v) (sym (volume_is h _ c.kept_volume-volume.ensures.value.0)) l))
 
-pub invariant-of-result : goal.invariant-of-result
-invariant-of-result c = (large _ c.if-volume-lt1.false, tt)
+pub invariant_of-result : goal.invariant_of-result
+invariant_of-result c = record { positive = large _ c.if-volume-lt1.false }
 
 pub returns : goal.returns
 returns c =
     let h = c.args.self.now in
-    let volume = volume_is h _ c.kept-volume-volume.ensures.value.0 in
-    says_certified (faces_of h) c.in-ok-test-closed.ensures c.in-default.ensures (c.is-connected.ensures.0 c.if-not-is-connected.false) _
+    let volume = volume_is h _ c.kept_volume-volume.ensures.value.0 in
+    says_certified (faces_of h) c.in_ok-test_closed.ensures c.in_default.ensures (c.is_connected.ensures.0 c.if-not-is_connected.false) _
     (subst (λ v. pos 1 ≤ℤ v) volume (large _ c.if-volume-lt1.false))
-    (λ i. record { v = c.key-count.ensures.value i; e = c.edge-count.ensures.value i / 2; f = c.face_count.ensures.value i; n = volume i })
+    (λ i. record { v = c.key_count.ensures.value i; e = c.edge_count.ensures.value i / 2; f = c.face_count.ensures.value i; n = volume i })

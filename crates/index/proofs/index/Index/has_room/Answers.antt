@@ -14,8 +14,8 @@ returns-then-len-ge-FACES c =
       λ limits. absurd (omega (arith, limits.faces, faces_more (faces_of h) (ring_of c.args.ring.now), face_total h.faces)),
     )
 
-pub returns-then-corner-count-ring-gt-EDGES : goal.returns-then-corner-count-ring-gt-EDGES
-returns-then-corner-count-ring-gt-EDGES c =
+pub returns-then-corner_count-ring-gt-EDGES : goal.returns-then-corner_count-ring-gt-EDGES
+returns-then-corner_count-ring-gt-EDGES c =
     let h = c.args.self.now in
     let r = c.args.ring.now in (
       λ t. absurd (false≢true t),
@@ -27,7 +27,7 @@ returns c =
     let h = c.args.self.now in
     let r = c.args.ring.now in
     let size = c.len-2.ensures ∙ (kept_out h.kept).positions_held.1 ∙ key_size h.faces in
-    let keys = c.new-keys.ensures.0 in (
+    let keys = c.new_keys.ensures.0 in (
       λ t. record {
         faces = omega (arith, faces_more (faces_of h) (ring_of r), face_total h.faces);
         keys = omega (arith, size, keys, leb-true _ _ t);

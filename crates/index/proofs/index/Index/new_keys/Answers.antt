@@ -10,7 +10,7 @@ use Rattle.index.specs.Meaning.{faces_of}
 use Rattle.tracking.proofs.Keys.{found_key, kinds_more, key_count_more, keys_length, key_at_lem}
 use Rattle.tracking.proofs.Props.{kept_out}
 use Rattle.index.proofs.index.Index.new_keys.Goals as goal
-use Rattle.index.proofs.index.Index.new_keys.Goals.{then-is-none, else-is-none}
+use Rattle.index.proofs.index.Index.new_keys.Goals.{then-is_none, else-is_none}
 
 pub loop-c-preserved : goal.loop-c-preserved
 loop-c-preserved c =
@@ -21,12 +21,12 @@ loop-c-preserved c =
     let ns : List ℕ = map (λ (c : Corner). c.key) (ring_of r) in
     let l : i < length ns = omega (arith, keys_length r) in
     let old : ℕ = kinds eqb (ks ++ take i ns) in
-    let there : has eqb _ ks ≡ not c.is-none.result = sym (found_key h.faces _) ∙ sym (ap is_some (c.find.ensures (key_pairs (stored_corners h.faces)) (kept_out h.kept).positions_held.0)) ∙ c.is-none.ensures in
-    let more : kinds eqb (ks ++ take (i + 1) ns) ≡ cond (not c.is-none.result) old (suc old) =
+    let there : has eqb _ ks ≡ not c.is_none.result = sym (found_key h.faces _) ∙ sym (ap is_some (c.find.ensures (key_pairs (stored_corners h.faces)) (kept_out h.kept).positions_held.0)) ∙ c.is_none.ensures in
+    let more : kinds eqb (ks ++ take (i + 1) ns) ≡ cond (not c.is_none.result) old (suc old) =
     kinds_more ks ns c.requires.keys i l ∙ ap (λ k. cond (has eqb k ks) old (suc old)) (key_at_lem r i c.loop-c-test.true) ∙ ap (λ b. cond b old (suc old)) there in
-    elim c.if-is-none.branch [
-      | then-is-none w ↦ (let e = more ∙ ap (λ b. cond (not b) old (suc old)) w.if-is-none.true in (omega (arith, e, w.count_is, c.loop-c.invariant.0), omega (arith, w.count_is, c.loop-c.invariant.1)))
-      | else-is-none w ↦ (let e = more ∙ ap (λ b. cond (not b) old (suc old)) w.if-is-none.false in (omega (arith, e, w.count_is, c.loop-c.invariant.0), omega (arith, w.count_is, c.loop-c.invariant.1)))
+    elim c.if-is_none.branch [
+      | then-is_none w ↦ (let e = more ∙ ap (λ b. cond (not b) old (suc old)) w.if-is_none.true in (omega (arith, e, w.count-is, c.loop-c.invariant.0), omega (arith, w.count-is, c.loop-c.invariant.1)))
+      | else-is_none w ↦ (let e = more ∙ ap (λ b. cond (not b) old (suc old)) w.if-is_none.false in (omega (arith, e, w.count-is, c.loop-c.invariant.0), omega (arith, w.count-is, c.loop-c.invariant.1)))
     ]
 
 pub returns : goal.returns

@@ -35,5 +35,5 @@ returns c =
     let fs = faces_of c.args.self.now in
     λ e i. (
     let t = place_of fs e i in
-    subst (λ (d : Edge). In (flip d) (all_edges fs)) (sym t.2) (c.loop-place.invariant t.0 (omega (arith, t.1, c.loop-place-test.false, c.corner-count-place-end.ensures, edge_total c.args.self.now.faces)))
+    subst (λ (d : Edge). In (flip d) (all_edges fs)) (sym t.2) (c.loop-place.invariant t.0 (omega (arith, t.1, c.loop-place-test.false, c.corner_count-place-end.ensures, edge_total c.args.self.now.faces)))
     )

@@ -14,23 +14,22 @@ use Rattle.index.proofs.index.Index.put.Goals.{Start}
 may : (c : Start) → Enterable (faces_of c.args.self.now) (ring_of c.args.ring.now)
 may c = enter_taken (faces_of c.args.self.now) (ring_of c.args.ring.now) c.requires
 
-pub add-edges-requires : goal.add-edges-requires
-add-edges-requires c =
+pub add_edges-requires : goal.add_edges-requires
+add_edges-requires c =
     let x = c.args.self.now in (
-      omega (arith, c.corner-count-first.ensures, edge_total x.faces, (kept_out x.kept).consistent.limits.edges),
-      omega (arith, (may (goal.at.add-edges-requires c).Start).proper.tidy.sized.1, length-map c.args.ring.now corner_of),
+      omega (arith, c.corner_count-first.ensures, edge_total x.faces, (kept_out x.kept).consistent.limits.edges),
+      omega (arith, (may (goal.at.add_edges-requires c).Start).proper.tidy.sized.1, length-map c.args.ring.now corner_of),
     )
 
-pub invariant-of-self : goal.invariant-of-self
-invariant-of-self c =
-    let x = c.args.self.now in (
-      ∣ grown x.faces c.push.new.self c.args.ring.now x.positions c.add-corners.new.positions x.keys c.add-corners.new.keys x.edges c.add-edges.new.edges c.push.result
-          (kept_out x.kept) (may (goal.at.invariant-of-self c).Start) c.push.ensures c.add-corners.ensures.positions c.add-corners.ensures.keys (rw (sym c.corner-count-first.ensures) c.add-edges.ensures) ∣₁,
-      tt,
-    )
+pub invariant_of-self : goal.invariant_of-self
+invariant_of-self c =
+    let x = c.args.self.now in record {
+      kept = ∣ grown x.faces c.push.new.self c.args.ring.now x.positions c.add_corners.new.positions x.keys c.add_corners.new.keys x.edges c.add_edges.new.edges c.push.result
+          (kept_out x.kept) (may (goal.at.invariant_of-self c).Start) c.push.ensures c.add_corners.ensures.positions c.add_corners.ensures.keys (rw (sym c.corner_count-first.ensures) c.add_edges.ensures) ∣₁;
+    }
 
 pub returns : goal.returns
 returns c =
     let x = c.args.self.now in
-    rings_grown x.faces c.push.new.self c.args.ring.now x.positions c.add-corners.new.positions x.keys c.add-corners.new.keys x.edges c.add-edges.new.edges c.push.result
+    rings_grown x.faces c.push.new.self c.args.ring.now x.positions c.add_corners.new.positions x.keys c.add_corners.new.keys x.edges c.add_edges.new.edges c.push.result
     (kept_out x.kept) (may (goal.at.returns c).Start) c.push.ensures

@@ -13,7 +13,7 @@ use Rattle.index.specs.Meaning.{faces_of}
 use Rattle.tracking.proofs.Edges.{found_reverse}
 use Rattle.tracking.proofs.Props.{kept_out}
 use Rattle.index.proofs.index.Index.reverses.Goals as goal
-use Rattle.index.proofs.index.Index.reverses.Goals.{then-is-some, else-is-some}
+use Rattle.index.proofs.index.Index.reverses.Goals.{then-is_some, else-is_some}
 
 pub loop-i-preserved : goal.loop-i-preserved
 loop-i-preserved c =
@@ -24,20 +24,20 @@ loop-i-preserved c =
     let es : List Edge = edges (ring_of r) in
     let l : i < length es = omega (arith, edges_length r) in
     let test : Edge → Bool = λ e. has same_edge (flip e) (all_edges (faces_of h)) in
-    let here : test (get_or es i no_edge) ≡ c.is-some.result =
+    let here : test (get_or es i no_edge) ≡ c.is_some.result =
     ap test (edges_at r no_edge i c.loop-i-test.true)
     ∙ sym (found_reverse (faces_of h) k.consistent (ring_of r) c.requires (edge r i) (edge_in r i c.loop-i-test.true))
     ∙ ap (λ n. is_some (lookup (edge_pairs 0 (all_edges (faces_of h))) (pair_rank ((corner r n).key, (corner r i).key)))) (sym c.following.ensures.is)
     ∙ ap is_some (sym (c.find.ensures (edge_pairs 0 (all_edges (faces_of h))) k.edges_held.0))
-    ∙ sym c.is-some.ensures in
-    let more : length (filter test (take (i + 1) es)) ≡ length (filter test (take i es)) + length (cond c.is-some.result (get_or es i no_edge ∷ []) []) =
+    ∙ sym c.is_some.ensures in
+    let more : length (filter test (take (i + 1) es)) ≡ length (filter test (take i es)) + length (cond c.is_some.result (get_or es i no_edge ∷ []) []) =
     ap (λ t. length (filter test t)) (take_more es i no_edge l)
     ∙ ap length (kept_append test (take i es) (get_or es i no_edge ∷ []))
     ∙ length-append (filter test (take i es)) (cond (test (get_or es i no_edge)) (get_or es i no_edge ∷ []) [])
     ∙ ap (λ b. length (filter test (take i es)) + length (cond b (get_or es i no_edge ∷ []) [])) here in
-    elim c.if-is-some.branch [
-      | then-is-some w ↦ (let e = more ∙ ap (λ b. length (filter test (take i es)) + length (cond b (get_or es i no_edge ∷ []) [])) w.if-is-some.true in (omega (arith, e, w.count_is, c.loop-i.invariant.0), omega (arith, w.count_is, c.loop-i.invariant.1)))
-      | else-is-some w ↦ (let e = more ∙ ap (λ b. length (filter test (take i es)) + length (cond b (get_or es i no_edge ∷ []) [])) w.if-is-some.false in (omega (arith, e, w.count_is, c.loop-i.invariant.0), omega (arith, w.count_is, c.loop-i.invariant.1)))
+    elim c.if-is_some.branch [
+      | then-is_some w ↦ (let e = more ∙ ap (λ b. length (filter test (take i es)) + length (cond b (get_or es i no_edge ∷ []) [])) w.if-is_some.true in (omega (arith, e, w.count-is, c.loop-i.invariant.0), omega (arith, w.count-is, c.loop-i.invariant.1)))
+      | else-is_some w ↦ (let e = more ∙ ap (λ b. length (filter test (take i es)) + length (cond b (get_or es i no_edge ∷ []) [])) w.if-is_some.false in (omega (arith, e, w.count-is, c.loop-i.invariant.0), omega (arith, w.count-is, c.loop-i.invariant.1)))
     ]
 
 pub returns : goal.returns

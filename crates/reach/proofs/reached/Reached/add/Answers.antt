@@ -8,33 +8,28 @@ use Rattle.reach.proofs.reached.Reached.add.Goals.{Then-not-has}
 room : (c : Then-not-has) → c.args.self.now.filled < 512
 room c = filled_room c.args.self.now c.args.face c.requires (sym c.has.ensures ∙ c.if-not-has.true)
 
-pub offset-bounds-self-self : goal.offset-bounds-self-self
-offset-bounds-self-self c = omega (arith, room (goal.at.offset-bounds-self-self c).Then-not-has)
+pub offset_bounds-self-self : goal.offset_bounds-self-self
+offset_bounds-self-self c = omega (arith, room (goal.at.offset_bounds-self-self c).Then-not-has)
 
 pub bounds-self-self : goal.bounds-self-self
 bounds-self-self c = room (goal.at.bounds-self-self c).Then-not-has
 
-pub overflow-add-self : goal.overflow-add-self
-overflow-add-self c = omega (arith, room (goal.at.overflow-add-self c).Then-not-has)
+pub overflow_add-self : goal.overflow_add-self
+overflow_add-self c = omega (arith, room (goal.at.overflow_add-self c).Then-not-has)
 
 within : (c : Then-not-has) → c.args.face < length (members c.args.self.now.marks.words)
 within c = omega (arith, c.requires, bits_long c.args.self.now)
 
-pub invariant-of-self : goal.invariant-of-self
-invariant-of-self c =
+pub invariant_of-self : goal.invariant_of-self
+invariant_of-self c =
     let r = c.args.self.now in
-    let w = (goal.at.invariant-of-self c).Then-not-has in
+    let w = (goal.at.invariant_of-self c).Then-not-has in
     let xs = members r.marks.words in
-    let out = sym c.has.ensures ∙ c.if-not-has.true in (
-      length-set r.queue r.filled c.args.face ∙ r.long,
-      (
-        omega (arith, r.many, ap ones_of c.mark.ensures, ones_set xs c.args.face (within w) out),
-        (
-          λ g. ap (λ (bs : List Bool). get_or bs g false) c.mark.ensures ∙ same_more xs r.queue r.filled c.args.face (omega (arith, room w, r.long)) (within w) r.same g,
-          tt,
-        ),
-      ),
-    )
+    let out = sym c.has.ensures ∙ c.if-not-has.true in record {
+      long = length-set r.queue r.filled c.args.face ∙ r.long;
+      many = omega (arith, r.many, ap ones_of c.mark.ensures, ones_set xs c.args.face (within w) out);
+      same = λ g. ap (λ (bs : List Bool). get_or bs g false) c.mark.ensures ∙ same_more xs r.queue r.filled c.args.face (omega (arith, room w, r.long)) (within w) r.same g;
+    }
 
 pub returns-then-not-has : goal.returns-then-not-has
 returns-then-not-has c =
