@@ -11,7 +11,7 @@ pub returns-in_err-d : goal.returns-in_err-d
 returns-in_err-d c =
     let h = c.args.self.now in
     let says = c.in_err-d.ensures in
-    let p = err_from_is_err_and c.from-residual.result c.from-residual.ensures.1 in
+    let p = err_from_is_err_and c.from_residual.result c.from_residual.ensures.1 in
     rw (p.1, p.2) (record { says = says; faces = refl; left = refl; law = entered_law h h (ring_of c.args.ring.now) (Err c.in_err-d.field-0.0) says refl })
 
 pub returns : goal.returns

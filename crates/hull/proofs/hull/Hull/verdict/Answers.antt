@@ -19,7 +19,7 @@ use Rattle.hull.proofs.hull.Hull.verdict.Goals as goal
 pub returns-in_err-test_closed : goal.returns-in_err-test_closed
 returns-in_err-test_closed c =
     let fs = faces_of c.args.self.now in
-    let p = err_from_is_err_and c.from-residual.result c.from-residual.ensures.1 in
+    let p = err_from_is_err_and c.from_residual.result c.from_residual.ensures.1 in
     let e = c.in_err-test_closed.ensures in
     rw (p.1, p.2) (subst (λ (f : ShapeFault). CertifySays fs (Err f)) (sym e.2) (says_open fs e.0 e.1))
 
