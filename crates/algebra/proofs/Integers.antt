@@ -2,7 +2,7 @@
 -- An integer z is read as `up z - down z`, so that each law is one of naturals.
 
 use Rattle.std.proofs.Common.{◌≡◌, ℕ, ◌+◌, ◌*◌, ℤ, pos, ◌+ℤ◌, ◌*ℤ◌, neg_ℤ, sym, ap, ◌∙◌, ap₂, mul_assoc, add-mul, mul-add, arith}
-use lib.IntN.{*ℤ_comm, *ℤ-one, one, +ℤ_assoc, +ℤ_comm, neg_ℤ-+ℤ, neg_ℤ-neg_ℤ}
+use lib.IntN.{*ℤ_comm, *ℤ-one, one, +ℤ_assoc, +ℤ_comm}
 use borrow.Author.Differences.{ints, up, down, same_in, sum_is_lem, product_is, neg_is}
 
 pub *ℤ-+ℤ : (a b c : ℤ) → a *ℤ (b +ℤ c) ≡ a *ℤ b +ℤ a *ℤ c

@@ -9,7 +9,7 @@
 --     cast_fits, cast-stored    the same where all operands are of another width u and cast to w
 --     read-back       the value of one such operand among others
 
-use Rattle.std.proofs.Common.{◌≡◌, ℕ, zero, suc, ◌+◌, ◌*◌, ◌^◌, ◌<◌, ◌≤◌, Bool, true, ◌&&◌, T, ltb, leb, List, [], ◌∷◌, get_or, ℤ, pos, negsuc, ◌+ℤ◌, ◌-ℤ◌, ◌*ℤ◌, neg_ℤ, nat_abs, ◌≤ℤ◌, sym, refl, ap, ◌∙◌, subst, ap₂, zero-le, le_trans, le_refl, mul-le-mul, arith, ltb→lt, leb→le, to_z-of_z, SFits, to_z, of_z}
+use Rattle.std.proofs.Common.{◌≡◌, ℕ, zero, suc, ◌+◌, ◌*◌, ◌^◌, ◌≤◌, Bool, true, ◌&&◌, T, ltb, leb, List, [], ◌∷◌, get_or, ℤ, pos, negsuc, ◌+ℤ◌, ◌-ℤ◌, ◌*ℤ◌, neg_ℤ, nat_abs, ◌≤ℤ◌, sym, refl, ap, ◌∙◌, subst, ap₂, zero-le, le_trans, le_refl, mul-le-mul, arith, ltb→lt, leb→le, to_z-of_z, SFits, to_z, of_z}
 use lib.IntN.{+ℤ_idl}
 use lib.Signed.{mag}
 use lib.Ieee.Fits.{and_l, and_r}

@@ -1,7 +1,7 @@
 -- The order of ℤ and products: squares, factors that are not negative, and what they say of dot products.
 -- An order is carried to a difference that is not negative, which the ring normaliser then rewrites.
 -- `◌≤ℤ◌` binds more tightly than the operations, so a sum or a product beside it stands in parentheses.
-use Rattle.std.proofs.Common.{◌≡◌, zero, suc, ◌*◌, List, [], ◌∷◌, ℤ, pos, negsuc, ◌+ℤ◌, ◌-ℤ◌, ◌*ℤ◌, neg_ℤ, nat_abs, ◌≤ℤ◌, sym, refl, ap, ◌∙◌, subst, zero-le, mul-suc, arith, le→leb}
+use Rattle.std.proofs.Common.{◌≡◌, zero, suc, ◌*◌, [], ◌∷◌, ℤ, pos, negsuc, ◌+ℤ◌, ◌-ℤ◌, ◌*ℤ◌, neg_ℤ, nat_abs, ◌≤ℤ◌, refl, ap, subst, zero-le, mul-suc, arith, le→leb}
 use borrow.Author.Differences.{ints}
 use Rattle.algebra.specs.Vector.{V3, null, dot}
 use Rattle.algebra.proofs.Ring.{var, ◌⊖◌, ◌⊗◌, solve}

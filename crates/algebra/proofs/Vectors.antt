@@ -2,9 +2,9 @@
 -- The normaliser is lifted to vectors: `a`, `b`, `c` and `d` below are vectors of variables, `dotᴱ` and `crossᴱ` are `dot` and
 -- `cross` over expressions, and `by_ring` and `by_ringᵛ` solve an equation of numbers and one of vectors.
 
-use Rattle.std.proofs.Common.{◌≡◌, ℕ, ◌+◌, ◌*◌, Bool, ◌&&◌, T, List, [], ◌∷◌, ◌++◌, ℤ, pos, ◌+ℤ◌, ◌-ℤ◌, ◌*ℤ◌, neg_ℤ, sym, ◌∙◌}
+use Rattle.std.proofs.Common.{◌≡◌, ℕ, ◌+◌, ◌*◌, Bool, ◌&&◌, T, List, [], ◌∷◌, ℤ, pos, ◌+ℤ◌, ◌-ℤ◌, neg_ℤ, sym, ◌∙◌}
 use lib.Ieee.Fits.{and_l, and_r}
-use Rattle.algebra.specs.Vector.{V3, null, ◌+ᵛ◌, ◌-ᵛ◌, negᵛ, scale, dot, cross}
+use Rattle.algebra.specs.Vector.{V3, null, ◌+ᵛ◌, ◌-ᵛ◌, negᵛ, dot, cross}
 use Rattle.algebra.proofs.Ring.{Expr, var, con, ◌⊕◌, ◌⊖◌, ◌⊗◌, ⊝, eval, norm, vanishes, Same, solve}
 
 -- ---- vectors of expressions

@@ -1,5 +1,5 @@
 -- Where the faces begin and end, by the numbers that are kept.
-use Rattle.std.proofs.Common.{◌≡◌, ℕ, zero, suc, ◌+◌, ◌-◌, ◌<◌, ◌≤◌, Bool, true, ◌&&◌, eqb, leb, List, [], ◌∷◌, map, length, get_or, take, drop, vec_items, vec_len, sym, refl, ap, ◌∙◌, subst, inl, inr, arith, length-drop}
+use Rattle.std.proofs.Common.{◌≡◌, ℕ, zero, suc, ◌+◌, ◌-◌, ◌<◌, ◌≤◌, true, List, [], ◌∷◌, map, length, get_or, take, drop, vec_items, vec_len, sym, ap, ◌∙◌, subst, inl, inr, arith, length-drop}
 use Rattle.std.proofs.lemmas.List.{length-take-le, length-map}
 use Rattle.std.proofs.lemmas.Bool.{cases_lt}
 use Rattle.std.proofs.lemmas.Bool.Decides.{nat_tests}
@@ -9,7 +9,7 @@ use Rattle.solid.specs.declared.Corner.{Corner as StoredCorner}
 use Rattle.faces.specs.Cuts.{ends_rise, cut}
 use Rattle.faces.specs.Held.{stored_corners, stored_rings, rings}
 use Rattle.faces.specs.declared.held.Faces.{Faces}
-use Rattle.faces.proofs.Cuts.{ends_below, length_cut}
+use Rattle.faces.proofs.Cuts.{ends_below}
 use Rattle.faces.proofs.Pushes.{whole, face_count, corner_count}
 
 -- the ends go up

@@ -1,8 +1,7 @@
 -- What a list of faces holds after one face more, and its sizes.
 use Rattle.std.proofs.Common.{◌≡◌, ℕ, ◌+◌, ◌≤◌, true, List, [], ◌∷◌, ◌++◌, map, length, vec_items, vec_len, sym, refl, ap, ◌∙◌, ap₂, arith}
-use Rattle.std.proofs.lemmas.List.{map-append, length-map}
+use Rattle.std.proofs.lemmas.List.{map-append}
 use Rattle.solid.specs.Corners.{corner_of, ring_of}
-use Rattle.solid.specs.Faces.{Corner, Ring}
 use Rattle.solid.specs.Rules.{corners}
 use Rattle.solid.specs.declared.Corner.{Corner as StoredCorner}
 use Rattle.faces.specs.Cuts.{ends_rise, cut}

@@ -1,5 +1,5 @@
 -- The number of each fault, and the values that it carries: the one definition that every contract cites.
-use Rattle.std.specs.Prelude.{List, [], ◌∷◌, ℕ}
+use Rattle.std.specs.Prelude.{ℕ}
 use Rattle.fault.specs.declared.text.TextFault.{TextFault}
 use Rattle.fault.specs.declared.text.TextFault.TheVariants.{TooLong, NoToken, Unexpected, TooDeep, Level, NoRoom, Again}
 use Rattle.fault.specs.declared.record.RecordFault.{RecordFault}

@@ -1,10 +1,9 @@
 -- A check, and certifying, keep the promise whole, by what they say and leave.
-use Rattle.std.proofs.Common.{◌≡◌, ◌↔◌, List, pos, ◌≤ℤ◌, Ok, sym, refl, ap, ◌∙◌, subst}
+use Rattle.std.proofs.Common.{◌≡◌, List, pos, ◌≤ℤ◌, Ok, sym, refl, ap, ◌∙◌, subst}
 use Rattle.solid.specs.Certifying.{Verdict, CertifySays}
 use Rattle.solid.specs.Checking.{CheckSays, Checked}
 use Rattle.solid.specs.Faces.{Ring}
-use Rattle.solid.specs.Roll.{Call, check, certify, Rolls}
-use Rattle.solid.specs.Rules.{Consistent}
+use Rattle.solid.specs.Roll.{Call, check, certify}
 use Rattle.solid.specs.Soundness.{Sound, Certificate, certificate}
 use Rattle.solid.specs.Sources.{Meaning}
 use Rattle.solid.specs.Verdicts.{Judges, Says}

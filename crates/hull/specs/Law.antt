@@ -1,5 +1,5 @@
 -- The law of histories, which every call on a hull keeps, and what entering a face answers and leaves.
-use Rattle.std.specs.Prelude.{◌≡◌, List, [], ◌∷◌, ◌-ℤ◌, Ok, Err}
+use Rattle.std.specs.Prelude.{◌≡◌, List, ◌∷◌, ◌-ℤ◌, Ok, Err}
 use Rattle.algebra.specs.Vector.{V3, dot}
 use Rattle.solid.specs.Entering.{Entry, EnterSays, entered}
 use Rattle.solid.specs.Faces.{Ring, count}

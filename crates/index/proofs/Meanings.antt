@@ -1,5 +1,4 @@
 -- What an index means is kept by it: its faces are consistent, and the places of its edges are in the order of the keys.
-use Rattle.std.proofs.Common.{◌≡◌}
 use Rattle.solid.specs.Cycles.{ByKey}
 use Rattle.solid.specs.Rules.{Consistent}
 use Rattle.tracking.proofs.Places.{by_key}

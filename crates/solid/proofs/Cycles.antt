@@ -2,11 +2,11 @@
 use Rattle.std.proofs.Common.{◌≡◌, ℕ, ◌<◌, List, [], ◌∷◌, length, sym, refl, ap, ◌∙◌, subst, inl, inr}
 use Rattle.solid.specs.Lists.{In}
 use Rattle.solid.specs.Faces.{Corner, Ring, Edge, flip, steps, edges, all_edges}
-use Rattle.solid.specs.Rules.{Consistent, corners}
+use Rattle.solid.specs.Rules.{Consistent}
 use Rattle.solid.specs.Soundness.{Closed, Walk, here, next, Step, HasKey, Round}
 use Rattle.solid.specs.Places.{no_edge, edge_at, key_at, Onward}
 use Rattle.solid.specs.Cycles.{Goes, stay, step, NoStepLeaves}
-use Rattle.solid.proofs.Members.{in_all_edges, face_of, same_face, edge_from, edge_to, ring_of_lem}
+use Rattle.solid.proofs.Members.{in_all_edges, face_of, same_face, edge_from, edge_to}
 use Rattle.solid.proofs.Rounds.{one_out, any_round}
 use Rattle.solid.proofs.Places.{place_one, place_of, edge_among}
 

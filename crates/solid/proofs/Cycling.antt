@@ -1,14 +1,14 @@
 -- Going round every key in rising order: what is known after some of the edges, and what the first edge that was not come by says.
-use Rattle.std.proofs.Common.{◌≡◌, ℕ, ◌+◌, ◌<◌, ◌≤◌, ◌⊎◌, List, map, length, get_or, sym, refl, ap, ◌∙◌, subst, inl, inr, arith, below_more}
+use Rattle.std.proofs.Common.{◌≡◌, ℕ, ◌+◌, ◌<◌, ◌≤◌, ◌⊎◌, List, length, get_or, sym, refl, ap, ◌∙◌, subst, inl, inr, arith, below_more}
 use Rattle.std.proofs.lemmas.Bool.{cases_order}
 use Rattle.solid.specs.Lists.{In}
-use Rattle.solid.specs.Faces.{Corner, Ring, Edge, all_edges}
+use Rattle.solid.specs.Faces.{Corner, Ring, all_edges}
 use Rattle.solid.specs.Rules.{Consistent, corners}
 use Rattle.solid.specs.Soundness.{Closed, Round, AllRound}
 use Rattle.solid.specs.Certifying.{LeastNotRound}
 use Rattle.solid.specs.Places.{edge_at, key_at, Onward}
 use Rattle.solid.specs.Cycles.{Goes, stay, step, NoStepLeaves, ByKey, GoneRound}
-use Rattle.solid.proofs.Members.{in_map, in_corners, ring_of_lem, ends_in_corners}
+use Rattle.solid.proofs.Members.{in_map, ring_of_lem, ends_in_corners}
 use Rattle.solid.proofs.Places.{edge_among}
 use Rattle.solid.proofs.Cycles.{onward_one, key_place, round_from, not_round}
 

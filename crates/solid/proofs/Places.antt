@@ -1,10 +1,10 @@
 -- Edges by their places, and the faces that have them.
-use Rattle.std.proofs.Common.{◌≡◌, ℕ, zero, suc, ◌+◌, ◌-◌, ◌<◌, ◌≤◌, List, [], ◌∷◌, ◌++◌, length, get_or, sym, refl, ap, ◌∙◌, subst, inl, inr, arith, length-append}
+use Rattle.std.proofs.Common.{◌≡◌, ℕ, zero, suc, ◌+◌, ◌-◌, ◌<◌, ◌≤◌, List, [], ◌∷◌, length, get_or, sym, ap, ◌∙◌, subst, inl, inr, arith, length-append}
 use Rattle.std.proofs.lemmas.List.{get_or_append_left, get_or-append_right}
 use Rattle.std.proofs.lemmas.Bool.{cases_order}
 use Rattle.solid.specs.Lists.{In, Distinct}
-use Rattle.solid.specs.Faces.{Corner, Ring, Edge, flip, edges, all_edges}
-use Rattle.solid.specs.Places.{no_edge, edge_at, key_at, face_at, first_place, Home, Twin, Follows, Onward}
+use Rattle.solid.specs.Faces.{Ring, Edge, edges, all_edges}
+use Rattle.solid.specs.Places.{no_edge, edge_at, face_at, first_place, Home, Twin, Follows, Onward}
 use Rattle.solid.proofs.Members.{in_at, at_in, edges_length}
 
 -- ---- elements that do not repeat

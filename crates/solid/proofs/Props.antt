@@ -1,6 +1,5 @@
 -- That faces are consistent has one proof at most. So it comes out of a truncation, as a struct's ghost field has it.
 use Rattle.std.proofs.Common.{◌≡◌, ℕ, List, [], ◌∷◌}
-use mathlib.Core.Logic.{∥∥₁_elim}
 use mathlib.Core.HLevel.{hedberg, Π_prop, ×_prop, ¬_prop, Unit-prop}
 use native.Mathlib.Bridge.{le_prop}
 use native.Mathlib.Decide.{ℕ_discrete}

@@ -5,7 +5,7 @@ use Rattle.solid.specs.Lists.{In}
 use Rattle.solid.specs.Faces.{Ring, Edge, flip, edges, all_edges}
 use Rattle.solid.specs.Rules.{Consistent}
 use Rattle.solid.specs.Soundness.{Walk, here, next, Touch, FromFirst}
-use Rattle.solid.specs.Places.{no_edge, edge_at, face_at, first_place, Home, Across}
+use Rattle.solid.specs.Places.{no_edge, edge_at, face_at, Home, Across}
 use Rattle.solid.proofs.Members.{in_at, at_in, some_step}
 use Rattle.solid.proofs.Places.{place_one, home_one, home_within, home_in, inner_place}
 

@@ -2,7 +2,7 @@
 use Rattle.std.specs.Prelude.{◌≡◌, ℕ, zero, suc, ◌+◌, ◌<◌, ◌≤◌, List, [], ◌∷◌, length, slice_index_or}
 use Rattle.algebra.specs.Vector.{null}
 use Rattle.solid.specs.Lists.{In}
-use Rattle.solid.specs.Faces.{Corner, Ring, Edge, flip, edges, all_edges}
+use Rattle.solid.specs.Faces.{Ring, Edge, flip, edges, all_edges}
 
 -- what stands past the end
 abbrev pub no_edge : Edge

@@ -1,11 +1,10 @@
 -- What an insertion makes of a table, by where its key was located.
-use Rattle.std.proofs.Common.{◌≡◌, ℕ, ◌+◌, ◌<◌, ◌≤◌, Bool, true, false, cond, List, [], ◌∷◌, ◌++◌, length, is_some, None, Ok, Err, vec_items, vec_len, sym, refl, ap, ◌∙◌, subst, arith}
+use Rattle.std.proofs.Common.{◌≡◌, ℕ, ◌+◌, ◌<◌, ◌≤◌, true, false, [], ◌∷◌, length, is_some, None, Ok, Err, vec_items, sym, refl, ap, ◌∙◌, subst, arith}
 use Rattle.std.proofs.lemmas.List.{length-map}
 use Rattle.std.proofs.lemmas.Bool.{true≢false, false≢true, cond-true, cond-false}
 use Rattle.std.specs.List.{insert}
-use Rattle.table.specs.Holds.{pairs, ranks, Holds, size_of, room_of, Inserted, Located}
+use Rattle.table.specs.Holds.{pairs, ranks, size_of, room_of, Inserted, Located}
 use Rattle.table.specs.Map.{lookup, Rising}
-use Rattle.table.specs.declared.Entry.{Entry}
 use Rattle.table.specs.declared.Table.{Table}
 use Rattle.table.proofs.Entries.{there, absent, rising_inserted, pairs_inserted, ranks_inserted}
 use Rattle.table.proofs.Maps.{lookup_kept, lookup_inserted, lookup_append_same}

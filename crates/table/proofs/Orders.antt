@@ -2,7 +2,7 @@
 use Rattle.std.proofs.Common.{◌≡◌, ℕ, zero, suc, ◌<◌, Bool, true, false, cond, eqb, List, [], ◌∷◌, map, length, get_or, is_some, Some, None, vec_items, Option, sym, refl, ap, ◌∙◌, true≢false, arith, eqb-true}
 use Rattle.std.proofs.lemmas.List.{length-map, get_or-map}
 use Rattle.table.specs.Holds.{pairs, ranks, values, Holds, size_of}
-use Rattle.table.specs.Map.{lookup, Rising}
+use Rattle.table.specs.Map.{lookup}
 use Rattle.table.specs.declared.Entry.{Entry}
 use Rattle.table.specs.declared.Table.{Table}
 use Rattle.table.proofs.Entries.{found}

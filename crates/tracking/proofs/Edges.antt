@@ -1,17 +1,17 @@
 -- What the table of edges finds, said of the faces' edges.
-use Rattle.std.proofs.Common.{◌≡◌, ℕ, zero, suc, ◌+◌, ◌<◌, Bool, true, false, cond, ◌||◌, eqb, List, [], ◌∷◌, length, get_or, is_some, Some, None, Option, sym, refl, ap, ◌∙◌, subst, inl, inr, true≢false, arith, eq-eqb, eqb-true}
-use Rattle.solid.specs.Corners.{corner_of, ring_of}
+use Rattle.std.proofs.Common.{◌≡◌, ℕ, zero, suc, ◌+◌, ◌<◌, Bool, true, false, cond, ◌||◌, eqb, List, [], ◌∷◌, length, get_or, is_some, Some, sym, refl, ap, ◌∙◌, subst, inl, inr, true≢false, arith, eq-eqb, eqb-true}
+use Rattle.solid.specs.Corners.{ring_of}
 use Rattle.solid.specs.Entering.{AllAllowed, FirstIn}
 use Rattle.solid.specs.Faces.{Corner, Ring, Edge, flip, edges, all_edges, same_edge}
 use Rattle.solid.specs.Lists.{In, has}
-use Rattle.solid.specs.Rules.{Valid, corners, Fresh, Consistent}
+use Rattle.solid.specs.Rules.{Valid, Fresh, Consistent}
 use Rattle.solid.specs.declared.Corner.{Corner as StoredCorner}
 use Rattle.solid.proofs.Answered.{allowed_valid, agree_before}
 use Rattle.solid.proofs.Members.{edge_from as edge-start, edge_to as edge-end, ring_of_lem, ends_in_corners, at_in}
 use Rattle.solid.proofs.Tests.{edge_tells}
 use Rattle.solid.proofs.Cancel.{in_from_has, has_from_in}
 use Rattle.ring.specs.Places.{edge}
-use Rattle.ring.proofs.Places.{edges_at, edges_length, edge_in, no_edge}
+use Rattle.ring.proofs.Places.{edges_at, edges_length, no_edge}
 use Rattle.table.specs.Map.{lookup}
 use Rattle.table.proofs.Ranks.{pair_same}
 use Rattle.tracking.specs.Tables.{edge_rank, edge_pairs}

@@ -1,5 +1,5 @@
 -- Empty tables are those of no faces.
-use Rattle.std.proofs.Common.{◌≡◌, ℕ, ◌≤◌, List, [], ◌∷◌, map, ℤ, sym, refl, ap, ◌∙◌, subst}
+use Rattle.std.proofs.Common.{◌≡◌, ℕ, ◌≤◌, List, [], map, ℤ, sym, ap, subst}
 use Rattle.faces.specs.Held.{stored_corners, stored_rings, rings, Room}
 use Rattle.faces.specs.declared.held.Faces.{Faces}
 use Rattle.solid.specs.Corners.{ring_of}

@@ -8,7 +8,7 @@ use Rattle.faces.proofs.Pushes.{corners_held}
 use Rattle.solid.specs.Corners.{corner_of, ring_of}
 use Rattle.solid.specs.Faces.{Corner}
 use Rattle.solid.specs.Lists.{In}
-use Rattle.solid.specs.Rules.{Valid, corners, Agree, Consistent}
+use Rattle.solid.specs.Rules.{Valid, corners, Consistent}
 use Rattle.solid.specs.declared.Corner.{Corner as StoredCorner}
 use Rattle.solid.proofs.Members.{in_map, ring_of_lem}
 use Rattle.table.specs.Map.{lookup}

@@ -1,27 +1,21 @@
 -- With one face more the tables are kept in step.
-use Rattle.std.proofs.Common.{◌≡◌, ℕ, suc, ◌+◌, ◌*◌, ◌<◌, ◌≤◌, Bool, true, false, cond, not, ◌||◌, eqb, List, [], ◌∷◌, ◌++◌, map, length, ℤ, ◌+ℤ◌, filter, sym, refl, ap, ◌∙◌, subst, ap₂, inl, inr, true≢false, le_trans, arith, eq-eqb, eqb-true}
+use Rattle.std.proofs.Common.{◌≡◌, ℕ, suc, ◌+◌, Bool, true, false, cond, ◌||◌, eqb, List, [], ◌∷◌, ◌++◌, map, length, ℤ, sym, refl, ap, ◌∙◌, subst, ap₂, inl, inr, true≢false, arith, eq-eqb, eqb-true}
 use mathlib.Core.List.{map-append}
 use Rattle.std.proofs.lemmas.List.{length-map}
-use Rattle.algebra.specs.Vector.{V3, vector, ◌+ᵛ◌, dot}
-use Rattle.faces.specs.Held.{stored_corners, stored_rings, rings, Room, Pushed}
+use Rattle.faces.specs.Held.{stored_corners, stored_rings, rings, Pushed}
 use Rattle.faces.specs.declared.held.Faces.{Faces}
 use Rattle.solid.specs.Corners.{corner_of, ring_of}
-use Rattle.solid.specs.Faces.{Corner, Ring, Edge, flip, edges, all_edges, D, start, same_edge, open_edges_of, kept_volume_of, edge_sum_of}
-use Rattle.solid.specs.Lists.{In, Distinct, has, kinds}
-use Rattle.solid.specs.Rules.{corners, key_count_of, Enterable, Consistent}
+use Rattle.solid.specs.Faces.{Edge, edges, all_edges}
+use Rattle.solid.specs.Lists.{In, has, kinds}
+use Rattle.solid.specs.Rules.{key_count_of, Enterable, Consistent}
 use Rattle.solid.specs.declared.Corner.{Corner as StoredCorner}
-use Rattle.solid.proofs.Growth.{kept_more, sum_more}
-use Rattle.solid.proofs.Members.{edges_length, all_edges_more}
-use Rattle.solid.proofs.Opens.{open_more}
+use Rattle.solid.proofs.Members.{all_edges_more}
 use Rattle.solid.proofs.Perms.{kinds_most}
 use Rattle.solid.proofs.Rolls.{consistent_more}
-use Rattle.solid.proofs.Tests.{edge_tells}
-use Rattle.ring.proofs.Places.{no_reverse}
-use Rattle.table.specs.Holds.{room_of}
 use Rattle.table.specs.Rank.{pair_rank, from_least, position_rank}
 use Rattle.table.specs.declared.Table.{Table}
 use Rattle.tracking.specs.Growth.{Grows}
-use Rattle.tracking.specs.Tables.{key_pairs, position_pairs, edge_rank, edge_pairs, Tracks, Kept}
+use Rattle.tracking.specs.Tables.{key_pairs, position_pairs, edge_pairs, Tracks, Kept}
 use Rattle.tracking.proofs.Finds.{held_in, rank_tells, position_inside}
 use Rattle.tracking.proofs.Grows.{edge_pairs-append}
 use Rattle.tracking.proofs.Keys.{firsts, key_size, edge_total, face_total, edges_more, faces_more}

@@ -1,9 +1,9 @@
 -- A table that tracks pairs, with one pair more.
-use Rattle.std.proofs.Common.{◌≡◌, ℕ, zero, suc, ◌+◌, ◌<◌, ◌≤◌, Bool, true, false, cond, eqb, List, [], ◌∷◌, ◌++◌, map, length, get_or, take, is_some, sym, refl, ap, ◌∙◌, subst, append_assoc, append-nil, le_trans, arith}
+use Rattle.std.proofs.Common.{◌≡◌, ℕ, suc, ◌+◌, ◌<◌, ◌≤◌, Bool, true, false, cond, eqb, List, [], ◌∷◌, ◌++◌, map, length, get_or, take, is_some, sym, refl, ap, ◌∙◌, subst, append_assoc, append-nil, le_trans, arith}
 use mathlib.Core.List.{map-append}
 use Rattle.std.proofs.lemmas.List.{take_more, length-take-le}
 use Rattle.solid.specs.Faces.{Edge}
-use Rattle.solid.specs.Lists.{has, kinds}
+use Rattle.solid.specs.Lists.{kinds}
 use Rattle.solid.proofs.Perms.{kinds_push, kinds_before}
 use Rattle.solid.proofs.Tests.{number_tells}
 use Rattle.table.specs.Holds.{size_of, room_of, Inserted}

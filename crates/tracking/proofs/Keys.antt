@@ -1,5 +1,5 @@
 -- How many keys the faces have, and how many a ring adds to them.
-use Rattle.std.proofs.Common.{◌≡◌, ℕ, zero, suc, ◌+◌, ◌<◌, ◌≤◌, Bool, true, false, cond, ◌||◌, eqb, List, [], ◌∷◌, ◌++◌, map, length, get_or, take, is_some, Some, None, sym, refl, ap, ◌∙◌, subst, ap₂, inl, inr, true≢false, append_assoc, arith, length-append, eq-eqb, eqb-true}
+use Rattle.std.proofs.Common.{◌≡◌, ℕ, zero, suc, ◌+◌, ◌<◌, Bool, true, false, cond, ◌||◌, eqb, List, [], ◌∷◌, ◌++◌, map, length, get_or, take, is_some, Some, sym, refl, ap, ◌∙◌, subst, ap₂, inl, inr, true≢false, append_assoc, arith, length-append, eq-eqb, eqb-true}
 use mathlib.Core.List.{map-append}
 use Rattle.std.proofs.lemmas.List.{take_more, length-map}
 use Rattle.faces.specs.Held.{stored_corners, stored_rings, rings}
@@ -10,7 +10,7 @@ use Rattle.solid.specs.Faces.{Corner, Ring, edges, all_edges}
 use Rattle.solid.specs.Lists.{In, Distinct, has, kinds}
 use Rattle.solid.specs.Rules.{corners, key_count_of}
 use Rattle.solid.specs.declared.Corner.{Corner as StoredCorner}
-use Rattle.solid.proofs.Cancel.{Tells, in_from_has, has_from_in, has_not}
+use Rattle.solid.proofs.Cancel.{in_from_has, has_from_in, has_not}
 use Rattle.solid.proofs.Members.{in_append, in_left, edges_length, all_edges_more, corners_more}
 use Rattle.solid.proofs.Perms.{kinds_push}
 use Rattle.solid.proofs.Tests.{number_tells}

@@ -1,30 +1,28 @@
 -- The edges of faces by their places, as the flat memory and the table of edges have them.
-use Rattle.std.proofs.Common.{◌≡◌, ℕ, suc, ◌+◌, ◌-◌, ◌^◌, ◌<◌, ◌≤◌, Bool, true, false, cond, eqb, List, [], ◌∷◌, ◌++◌, map, length, get_or, is_some, Some, None, Option, sym, refl, ap, ◌∙◌, subst, inl, inr, true≢false, arith, eqb-true, MatchOption}
+use Rattle.std.proofs.Common.{◌≡◌, ℕ, suc, ◌+◌, ◌-◌, ◌<◌, ◌≤◌, Bool, true, false, cond, eqb, List, [], ◌∷◌, ◌++◌, map, length, get_or, is_some, Some, None, Option, sym, refl, ap, ◌∙◌, subst, inl, inr, true≢false, arith, eqb-true, MatchOption}
 use mathlib.Core.List.{map-append}
 use Rattle.std.proofs.lemmas.List.{length-map, get_or-map}
-use Rattle.faces.specs.Held.{stored_corners, stored_rings, stored_key, rings}
+use Rattle.faces.specs.Held.{stored_corners, stored_rings, rings}
 use Rattle.faces.specs.declared.held.Faces.{Faces}
 use Rattle.faces.proofs.Pushes.{corners_held}
 use Rattle.solid.specs.Corners.{corner_of, ring_of}
 use Rattle.solid.specs.Cycles.{ByKey}
 use Rattle.solid.specs.Faces.{Corner, Ring, Edge, flip, steps, edges, all_edges, same_edge}
-use Rattle.solid.specs.Lists.{In, Distinct, has, kinds}
-use Rattle.solid.specs.Places.{no_edge, edge_at, key_at, face_at, first_place, Home, Twin, Follows}
+use Rattle.solid.specs.Lists.{In, Distinct, kinds}
+use Rattle.solid.specs.Places.{no_edge, edge_at, face_at, first_place, Home, Twin, Follows}
 use Rattle.solid.specs.Rules.{Valid, corners, Consistent}
-use Rattle.solid.specs.declared.Corner.{Corner as StoredCorner}
 use Rattle.solid.proofs.Cancel.{has_from_in, has_not}
 use Rattle.solid.proofs.Members.{ring_of_lem, ends_in_corners}
 use Rattle.solid.proofs.Places.{place_one, edge_among, next_first, face_edge, home_within}
 use Rattle.solid.proofs.Tests.{edge_tells, number_tells}
 use Rattle.ring.specs.Places.{blank, corner, edge, following}
 use Rattle.ring.proofs.Places.{edges_at, following_within}
-use Rattle.table.specs.Holds.{values, Holds, size_of}
+use Rattle.table.specs.Holds.{values, size_of}
 use Rattle.table.specs.Map.{lookup}
 use Rattle.table.specs.Rank.{pair_rank}
 use Rattle.table.specs.declared.Table.{Table}
 use Rattle.table.proofs.Orders.{rank_at, values_length, ranks_rise, value_found, value_place}
 use Rattle.tracking.specs.Tables.{edge_rank, edge_pairs, Tracks}
-use Rattle.tracking.specs.Tests.{AgreesWith}
 use Rattle.tracking.proofs.Edges.{found_is, rank_tells_edges}
 use Rattle.tracking.proofs.Keys.{edge_total, face_total}
 

@@ -1,5 +1,5 @@
 -- Each outcome of the tests in order, from what the tests before it found.
-use Rattle.std.proofs.Common.{◌≡◌, ℕ, ◌+◌, ◌≤◌, List, [], ◌∷◌, ◌++◌, length, Ok, Err, sym, refl, ap, ◌∙◌, subst, inl, inr}
+use Rattle.std.proofs.Common.{◌≡◌, ℕ, ◌+◌, ◌≤◌, List, [], ◌∷◌, ◌++◌, length, Ok, Err, sym, refl, ap, subst, inl, inr}
 use Rattle.std.proofs.lemmas.List.{length-map}
 use Rattle.fault.specs.declared.shape.ShapeFault.TheVariants.{CornerCount, Corner as BadCorner, NotPlanar, Crossing, EdgeTwice, Full}
 use Rattle.solid.specs.Corners.{corner_of, ring_of}

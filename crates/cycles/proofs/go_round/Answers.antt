@@ -1,4 +1,4 @@
-use Rattle.std.proofs.Common.{◌≡◌, ℕ, ◌*◌, ◌<◌, Bool, true, false, List, length, get_or, sym, ap, ◌∙◌, subst, arith}
+use Rattle.std.proofs.Common.{◌≡◌, ◌*◌, ◌<◌, Bool, List, length, sym, ap, ◌∙◌, subst, arith}
 use Rattle.index.specs.Meaning.{faces_of}
 use Rattle.index.proofs.Meanings.{consistent}
 use Rattle.marks.specs.Bits.{members, ones_of, Held}

@@ -1,4 +1,4 @@
-use Rattle.std.proofs.Common.{◌≡◌, ℕ, suc, ◌+◌, ◌<◌, ◌≤◌, ◌⊎◌, List, length, sym, ap, ◌∙◌, subst, inl, inr, arith}
+use Rattle.std.proofs.Common.{◌≡◌, ℕ, suc, ◌<◌, ◌≤◌, List, length, sym, ◌∙◌, subst, inl, inr, arith}
 use Rattle.index.specs.Meaning.{faces_of}
 use Rattle.index.proofs.Meanings.{consistent}
 use Rattle.solid.specs.Places.{first_place, Home, Across}
@@ -6,7 +6,7 @@ use Rattle.solid.specs.Faces.{Ring}
 use Rattle.solid.proofs.Places.{home_within}
 use Rattle.solid.proofs.Reaching.{across_one}
 use Rattle.std.proofs.lemmas.Bool.{cases_lt}
-use Rattle.reach.specs.Sets.{Has, Longer, Beside}
+use Rattle.reach.specs.Sets.{Has}
 use Rattle.reach.proofs.expand.Goals as goal
 
 -- a place between the ends of a face is one of the face

@@ -1,10 +1,10 @@
-use Rattle.std.proofs.Common.{◌≡◌, ℕ, ◌+◌, ◌<◌, ◌≤◌, ◌⊎◌, List, [], ◌∷◌, length, get_or, sym, refl, ap, ◌∙◌, subst, inl, inr, arith, eq-eqb, eqb-true}
+use Rattle.std.proofs.Common.{◌≡◌, ℕ, ◌<◌, ◌⊎◌, List, [], ◌∷◌, length, get_or, sym, refl, ◌∙◌, subst, inl, inr, arith, eq-eqb, eqb-true}
 use Rattle.index.specs.Meaning.{faces_of}
 use Rattle.index.proofs.Meanings.{consistent}
 use Rattle.marks.specs.Bits.{members}
 use Rattle.marks.proofs.Sets.{ones_full, ones_all}
 use Rattle.solid.specs.Faces.{Ring}
-use Rattle.solid.specs.Places.{Home, Across}
+use Rattle.solid.specs.Places.{Home}
 use Rattle.solid.specs.Soundness.{FromFirst}
 use Rattle.solid.proofs.Reaching.{reaching_none, reaching_more, reaching_all}
 use Rattle.reach.specs.Sets.{Has, Beside}

@@ -1,4 +1,4 @@
-use Rattle.std.proofs.Common.{◌≡◌, ℕ, ◌^◌, ◌<◌, List, length, get_or, sym, ap, ◌∙◌, arith, take_all, rules}
+use Rattle.std.proofs.Common.{ℕ, ◌^◌, ◌<◌, List, get_or, ap, ◌∙◌, arith, take_all, rules}
 use lib.Count.{ones-le}
 use Rattle.marks.specs.Bits.{members, ones_of}
 use Rattle.marks.proofs.Words.{bits_count, members_more}

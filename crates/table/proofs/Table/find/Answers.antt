@@ -1,5 +1,5 @@
 -- What `locate` finds is what a look-up finds.
-use Rattle.std.proofs.Common.{vec_items, sym, ap, ◌∙◌, arith}
+use Rattle.std.proofs.Common.{vec_items, sym, ◌∙◌}
 use Rattle.table.proofs.Entries.{found, absent}
 use Rattle.table.proofs.Table.find.Goals as goal
 

@@ -1,5 +1,5 @@
 -- The three ways of an insertion: the key is there, there is no room, and the entry goes to its place.
-use Rattle.std.proofs.Common.{◌≡◌, ◌<◌, true, vec_len, vec_capacity, sym, refl, ap, ◌∙◌, arith}
+use Rattle.std.proofs.Common.{◌<◌, vec_len, vec_capacity, ◌∙◌, arith}
 use Rattle.std.proofs.lemmas.Bool.{cond-true}
 use Rattle.table.proofs.Inserts.{stays, refuses, adds}
 use Rattle.table.proofs.Table.insert.Goals as goal

@@ -1,5 +1,5 @@
 -- What is left to look at lies between the ends that are at most the place and those past it.
-use Rattle.std.proofs.Common.{◌≡◌, ℕ, ◌+◌, ◌-◌, ◌/◌, ◌<◌, ◌≤◌, get_or, vec_items, vec_len, arith}
+use Rattle.std.proofs.Common.{◌+◌, ◌-◌, ◌/◌, ◌<◌, vec_items, vec_len, arith}
 use Rattle.std.proofs.lemmas.List.{get_or_read}
 use Rattle.faces.proofs.Places.{place_rise, home_found}
 use Rattle.faces.proofs.held.Faces.home.Goals as goal

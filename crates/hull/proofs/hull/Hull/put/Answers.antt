@@ -1,5 +1,5 @@
 -- Nothing overflows, and the counts are those of the faces with this one.
-use Rattle.std.proofs.Common.{◌≡◌, ℕ, ◌+◌, ◌*◌, ◌^◌, ◌<◌, ◌≤◌, [], ◌∷◌, ◌++◌, length, ℤ, ◌+ℤ◌, nat_abs, sym, ap, ◌∙◌, subst, ap₂, arith, w64, rules}
+use Rattle.std.proofs.Common.{◌≡◌, ◌+◌, ◌*◌, ◌^◌, ◌<◌, ◌≤◌, [], ◌∷◌, ◌++◌, length, ◌+ℤ◌, nat_abs, sym, ap, ◌∙◌, subst, ap₂, arith, w64, rules}
 use Rattle.std.proofs.lemmas.List.{length-map}
 use Rattle.algebra.specs.Vector.{Near, Large, vector, ◌+ᵛ◌, dot}
 use Rattle.algebra.proofs.Machine.{Bounded, ◌∷ᵇ◌, done, fits, stored}

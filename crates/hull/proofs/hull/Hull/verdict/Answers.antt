@@ -1,4 +1,4 @@
-use Rattle.std.proofs.Common.{◌≡◌, ◌*◌, ◌/◌, ◌^◌, true, false, not, T, ℤ, pos, ◌≤ℤ◌, Err, sym, refl, ap, ◌∙◌, subst, arith, w64, to_z, of_z}
+use Rattle.std.proofs.Common.{◌≡◌, ◌*◌, ◌/◌, ◌^◌, true, false, not, T, ℤ, pos, ◌≤ℤ◌, Err, sym, ◌∙◌, subst, arith, w64, to_z, of_z}
 use lib.Signed.{lt_z, lt_z_no}
 use Rattle.algebra.specs.Vector.{Near}
 use Rattle.algebra.proofs.Machine.{read_back}
@@ -10,7 +10,6 @@ use Rattle.solid.specs.Certifying.{CertifySays}
 use Rattle.solid.specs.Faces.{kept_volume_of}
 use Rattle.solid.proofs.Growth.{kept_near}
 use Rattle.solid.proofs.Certifies.{says_open, says_key_cycle, says_disconnected, says_no_volume, says_certified}
-use Rattle.hull.specs.Certificates.{verdict_of}
 use Rattle.hull.specs.Meaning.{faces_of}
 use Rattle.hull.specs.declared.hull.Hull.{Hull}
 use Rattle.hull.proofs.Laws.{consistent}

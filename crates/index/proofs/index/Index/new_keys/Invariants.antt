@@ -1,4 +1,4 @@
-use Rattle.std.proofs.Common.{◌≡◌, ℕ, ◌+◌, ◌≤◌, eqb, ◌++◌, map, take}
+use Rattle.std.proofs.Common.{◌≡◌, ◌+◌, ◌≤◌, eqb, ◌++◌, map, take}
 use Rattle.solid.specs.Corners.{ring_of}
 use Rattle.solid.specs.Faces.{Corner}
 use Rattle.solid.specs.Lists.{kinds}

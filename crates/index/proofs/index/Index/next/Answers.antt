@@ -1,4 +1,4 @@
-use Rattle.std.proofs.Common.{◌≡◌, ◌+◌, sym, ap, ◌∙◌, subst, arith}
+use Rattle.std.proofs.Common.{◌+◌, sym, subst, arith}
 use Rattle.solid.specs.Places.{Follows}
 use Rattle.tracking.proofs.Keys.{edge_total, face_total}
 use Rattle.tracking.proofs.Places.{follows_from}

@@ -1,4 +1,4 @@
-use Rattle.std.proofs.Common.{◌≡◌, ◌<◌, length, sym, ap, ◌∙◌, subst, arith, below_more}
+use Rattle.std.proofs.Common.{◌<◌, length, sym, ap, ◌∙◌, subst, arith, below_more}
 use Rattle.solid.specs.Faces.{Corner, Edge, flip, all_edges}
 use Rattle.solid.specs.Lists.{In}
 use Rattle.solid.specs.Places.{edge_at}

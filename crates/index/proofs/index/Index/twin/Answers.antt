@@ -1,6 +1,5 @@
-use Rattle.std.proofs.Common.{◌≡◌, sym, ap, ◌∙◌, ap₂, arith}
-use Rattle.solid.specs.Faces.{Corner, flip, all_edges}
-use Rattle.solid.specs.Places.{edge_at}
+use Rattle.std.proofs.Common.{sym, ap, ◌∙◌, ap₂, arith}
+use Rattle.solid.specs.Faces.{Corner, all_edges}
 use Rattle.table.specs.Map.{lookup}
 use Rattle.table.specs.Rank.{pair_rank}
 use Rattle.tracking.specs.Tables.{edge_pairs}

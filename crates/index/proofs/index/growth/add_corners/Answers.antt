@@ -1,11 +1,11 @@
-use Rattle.std.proofs.Common.{ℕ, List, get_or, ℤ, sym, ap, subst}
+use Rattle.std.proofs.Common.{ℕ, List, ℤ, sym, subst}
 use Rattle.std.proofs.lemmas.List.{take_all}
 use Rattle.solid.specs.declared.Corner.{Corner as StoredCorner}
 use Rattle.ring.specs.Places.{blank}
 use Rattle.table.specs.Rank.{position_rank}
 use Rattle.tracking.specs.Growth.{Grows}
 use Rattle.tracking.specs.Tables.{key_pairs, position_pairs}
-use Rattle.tracking.proofs.Grows.{grows_none, grows_more, pairs_more}
+use Rattle.tracking.proofs.Grows.{grows_more, pairs_more}
 use Rattle.index.proofs.index.growth.add_corners.Goals as goal
 
 pub loop-c-preserved : goal.loop-c-preserved

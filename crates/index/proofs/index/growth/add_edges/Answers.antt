@@ -1,8 +1,8 @@
-use Rattle.std.proofs.Common.{◌≡◌, ℕ, ◌+◌, ◌<◌, List, length, get_or, take, sym, ap, ◌∙◌, subst, ap₂, arith}
+use Rattle.std.proofs.Common.{◌≡◌, ℕ, ◌+◌, ◌<◌, List, length, get_or, take, sym, ap, ◌∙◌, subst, arith}
 use Rattle.std.proofs.lemmas.List.{take_all}
 use Rattle.solid.specs.Corners.{ring_of}
 use Rattle.solid.specs.Faces.{Edge, edges}
-use Rattle.ring.specs.Places.{corner, edge}
+use Rattle.ring.specs.Places.{corner}
 use Rattle.ring.proofs.Places.{edges_at, edges_length, no_edge}
 use Rattle.table.specs.Rank.{pair_rank}
 use Rattle.tracking.specs.Growth.{Grows}

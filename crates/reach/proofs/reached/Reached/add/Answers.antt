@@ -1,4 +1,4 @@
-use Rattle.std.proofs.Common.{◌≡◌, ◌<◌, Bool, false, List, length, get_or, set, sym, refl, ap, ◌∙◌, subst, inr, arith, length-set, get_or-set_other}
+use Rattle.std.proofs.Common.{◌<◌, Bool, false, List, length, get_or, sym, refl, ap, ◌∙◌, subst, inr, arith, length-set, get_or-set_other}
 use Rattle.marks.specs.Bits.{members, ones_of, Held}
 use Rattle.marks.proofs.Sets.{held_set, set_held, set_here, ones_set}
 use Rattle.reach.proofs.Queues.{same_more, bits_long, filled_room}
