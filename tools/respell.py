@@ -4,8 +4,8 @@
 usage: python3 tools/respell.py        at the top of the repository, once, right after the kit's own script port.py
 
 Beside it stands respell.tsv, a row for each name: old, a tab, new, and where the row is for one file alone, a tab and that file.
-A name turns as a whole word, in the code of specs/ and proofs/, in the clauses and ghost items of src/, and in the code spans of README.md and docs/.
-Text in quotes, comments of .antt and .rt files but for their code spans, and the names of src/ stay. It proves nothing: rt check decides.
+A name turns as a whole word, in the code of specs/, proofs/ and src/, and in the code spans of README.md and docs/. No row has a name of Rust's, so in src/ it is clauses and ghost
+items that turn. Text in quotes and comments of .antt and .rt files, but for their code spans, stay. It proves nothing: rt check decides.
 """
 
 import os

@@ -1,13 +1,13 @@
 -- What code computes of signed numbers, by the expressions of `Ring`: no step overflows, and the result is the expression's value.
--- A proof gives a bound for each variable, and the bound of each step is computed, so that a need of an `Answers.antt` is one line.
+-- A proof gives a bound for each variable, and the bound of each step is computed, so that the answer to a goal is one line.
 --     raw w ρ e       what the code has where it computes e at the width w, before it stores it: each operand is stored in w bits and read again,
 --                     and `-e` is 0 - e
 --     most βs e       a bound of |e| from those of the variables, βs
 --     roomy w βs e    the test that the bound of e, and of each part of it, is below 2 ^ (bits - 1)
---     fits            no overflow, for a need such as `mul-result` or `sub-result`
+--     fits            no overflow, for a goal such as `overflow_mul-result` or `overflow_sub-result`
 --     stored          the value, for `returns`
---     cast_fits, cast-stored    the same where all operands are of another width u and cast to w
---     read-back       the value of one such operand among others
+--     cast_fits, cast_stored    the same where all operands are of another width u and cast to w
+--     read_back       the value of one such operand among others
 
 use Rattle.std.proofs.Common.{◌≡◌, ℕ, zero, suc, ◌+◌, ◌*◌, ◌^◌, ◌≤◌, Bool, true, ◌&&◌, T, ltb, leb, List, [], ◌∷◌, get_or, ℤ, pos, negsuc, ◌+ℤ◌, ◌-ℤ◌, ◌*ℤ◌, neg_ℤ, nat_abs, ◌≤ℤ◌, sym, refl, ap, ◌∙◌, subst, ap₂, zero-le, le_trans, le_refl, mul-le-mul, arith, ltb→lt, leb→le, to_z-of_z, SFits, to_z, of_z}
 use lib.IntN.{+ℤ_idl}

@@ -5,7 +5,7 @@
 --     Poly, value     its normal form: a sum of terms, sorted by their variables, no coefficient 0; and the normal form's value
 --     norm, sound     the normal form, and that it keeps the value
 --     Same, solve     the test that the difference of two expressions has the normal form 0, and that they have one value then
---     solve-from      the same from equations (k, l, r): e is f plus the sum of k (l - r), where each l ≡ r
+--     solve_from      the same from equations (k, l, r): e is f plus the sum of k (l - r), where each l ≡ r
 -- An identity is tested by a Bool, and `tt` says that the test passed: to compare two normal forms by `refl` takes antt about fifty
 -- times as long. To see what is left of a difference, state `norm (e ⊖ f) ≡ none` and try `refl`.
 -- All that computes is an `abbrev`, so that a proof needs no `unfolding` line.
