@@ -6,10 +6,10 @@
 --     roomy w βs e    the test that the bound of e, and of each part of it, is below 2 ^ (bits - 1)
 --     fits            no overflow, for a goal such as `overflow_mul-result` or `overflow_sub-result`
 --     stored          the value, for `returns`
---     cast_fits, cast_stored    the same where all operands are of another width u and cast to w
---     read_back       the value of one such operand among others
+--     read_back       the value of an operand of another width, among others
+--     abs_fits        a value within a bound fits
 
-use Rattle.std.proofs.Common.{◌≡◌, ℕ, zero, suc, ◌+◌, ◌*◌, ◌^◌, ◌≤◌, Bool, true, ◌&&◌, T, ltb, leb, List, [], ◌∷◌, get_or, ℤ, pos, negsuc, ◌+ℤ◌, ◌-ℤ◌, ◌*ℤ◌, neg_ℤ, nat_abs, ◌≤ℤ◌, sym, refl, ap, ◌∙◌, subst, ap₂, zero-le, le_trans, le_refl, mul-le-mul, arith, ltb→lt, leb→le, to_z-of_z, SFits, to_z, of_z}
+use Rattle.std.proofs.Common.{◌≡◌, ℕ, zero, suc, ◌+◌, ◌*◌, ◌^◌, ◌≤◌, Bool, ◌&&◌, T, ltb, leb, List, [], ◌∷◌, get_or, ℤ, pos, negsuc, ◌+ℤ◌, ◌-ℤ◌, ◌*ℤ◌, neg_ℤ, nat_abs, ◌≤ℤ◌, sym, refl, ap, ◌∙◌, subst, ap₂, zero-le, le_trans, le_refl, mul-le-mul, arith, ltb→lt, leb→le, to_z-of_z, SFits, to_z, of_z}
 use lib.IntN.{+ℤ_idl}
 use lib.Signed.{mag}
 use lib.Ieee.Fits.{and_l, and_r}
@@ -78,7 +78,7 @@ mag_le : (z : ℤ) → mag z ≤ nat_abs z
 mag_le (pos n) = omega arith
 mag_le (negsuc n) = omega arith
 
-abs_fits : (w : Width) (z : ℤ) (n : ℕ) → nat_abs z ≤ n → T (ltb n (2 ^ hbits w)) → SFits w z
+pub abs_fits : (w : Width) (z : ℤ) (n : ℕ) → nat_abs z ≤ n → T (ltb n (2 ^ hbits w)) → SFits w z
 abs_fits w z n h t = record { sfits = omega (arith, mag_le z, ltb→lt n (2 ^ hbits w) t) }
 
 variable_within : {ρ : List ℤ} {βs : List ℕ} → Bounded ρ βs → (i : ℕ) → nat_abs (get_or ρ i (pos 0)) ≤ get_or βs i 0
@@ -149,24 +149,3 @@ module _ (w : Width) {ρ : List ℤ} {βs : List ℕ} (bounded : Bounded ρ βs)
 -- ---- one operand of another width u, which the code casts: as a variable it has the value `to_z u (of_z u k)`
 pub read_back : (u : Width) {β : ℕ} {k : ℤ} → T (ltb β (2 ^ hbits u)) → Near β k → to_z u (of_z u k) ≡ k
 read_back u {β} {k} t h = to_z-of_z (abs_fits u k β h.abs t)
-
--- ---- all operands of another width: each variable is read at the width u and cast to w, as in `a as i128 * b as i128`
-abbrev pub cast : Width → List ℤ → List ℤ
-cast u [] = []
-cast u (z ∷ ρ) = to_z u (of_z u z) ∷ cast u ρ
-
-abbrev pub all_roomy : Width → List ℕ → Bool
-all_roomy u [] = true
-all_roomy u (β ∷ βs) = ltb β (2 ^ hbits u) && all_roomy u βs
-
-cast_is : (u : Width) {ρ : List ℤ} {βs : List ℕ} → Bounded ρ βs → T (all_roomy u βs) → cast u ρ ≡ ρ
-cast_is u done t = refl
-cast_is u (◌∷ᵇ◌ {k} {β} {ρ} {βs} h b) t =
-    ap₂ ◌∷◌ (read_back u (and_l (ltb β (2 ^ hbits u)) (all_roomy u βs) t) h) (cast_is u b (and_r (ltb β (2 ^ hbits u)) (all_roomy u βs) t))
-
-module _ (u w : Width) {ρ : List ℤ} {βs : List ℕ} (bounded : Bounded ρ βs) (narrow : T (all_roomy u βs)) where
-  pub cast_fits : (e : Expr) → T (roomy w βs e) → SFits w (raw w (cast u ρ) e)
-  cast_fits e t = subst (λ (ρ : List ℤ). SFits w (raw w ρ e)) (sym (cast_is u bounded narrow)) (fits w bounded e t)
-
-  pub cast_stored : (e : Expr) → T (roomy w βs e) → to_z w (of_z w (raw w (cast u ρ) e)) ≡ eval ρ e
-  cast_stored e t = ap (λ (ρ : List ℤ). to_z w (of_z w (raw w ρ e))) (cast_is u bounded narrow) ∙ stored w bounded e t

@@ -2,47 +2,45 @@
 #![tactic(auto)]
 
 ghost use Rattle.std.specs.Prelude.{◌<◌, length, MatchOption};
-ghost use Rattle.index.specs.Meaning.{faces_of};
+ghost use Rattle.index.specs.Closed.{faces_in};
 ghost use Rattle.marks.specs.Bits.{members, Held};
 ghost use Rattle.solid.specs.Certifying.{LeastNotRound};
 ghost use Rattle.solid.specs.Cycles.{NoStepLeaves, GoneRound};
 ghost use Rattle.solid.specs.Faces.{all_edges};
-ghost use Rattle.solid.specs.Soundness.{Closed, AllRound};
+ghost use Rattle.solid.specs.Soundness.{AllRound};
 
-use index::index::Index;
+use index::index::closed::ClosedIndex;
 use marks::Marks;
 
 // A set of places, of which a hull has at most 3,072.
 type Places = Marks<48>;
 
 // Goes round the key at which the edge at a place begins, and marks each place on the way, until it comes to one that is marked.
-fn go_round(index: &Index, marks: &mut Places, start: usize)
-    requires closed { Closed (faces_of index.now) }
-    requires within { start < length (all_edges (faces_of index.now)) }
-    requires stays { NoStepLeaves (faces_of index.now) (Held (members marks.old.words)) }
-    ensures { GoneRound (faces_of index.now) start (Held (members marks.old.words)) (Held (members marks.new.words)) }
+fn go_round(closed: &ClosedIndex<'_>, marks: &mut Places, start: usize)
+    requires within { start < length (all_edges (faces_in closed.now)) }
+    requires stays { NoStepLeaves (faces_in closed.now) (Held (members marks.old.words)) }
+    ensures { GoneRound (faces_in closed.now) start (Held (members marks.old.words)) (Held (members marks.new.words)) }
 {
     let mut at = start;
     while !marks.has(at) {
         marks.mark(at);
-        at = index.onward(at);
+        at = closed.onward(at);
     }
 }
 
 // The least key whose faces do not form one cycle. The edges are looked at in the order of the keys at which they begin: from a key's first one the
 // steps go round, and each other edge of the key has to be on the way.
-pub fn broken_key(index: &Index) -> Option<u32>
-    requires { Closed (faces_of index.now) }
-    ensures { MatchOption result (AllRound (faces_of index.now)) (λ v. LeastNotRound (faces_of index.now) v) }
+pub fn broken_key(closed: &ClosedIndex<'_>) -> Option<u32>
+    ensures { MatchOption result (AllRound (faces_in closed.now)) (λ v. LeastNotRound (faces_in closed.now) v) }
 {
+    let index = closed.index();
     let mut marks = Places::none();
-    let mut last = 0;
-    for i in 0..index.edge_count() {
-        let place = index.in_order(i);
+    let mut last = None;
+    for &(_, place) in index.edges_by_key() {
         let key = index.key(place);
-        if key != last {
-            go_round(index, &mut marks, place);
-            last = key;
+        if last != Some(key) {
+            go_round(closed, &mut marks, place);
+            last = Some(key);
         }
         if !marks.has(place) {
             return Some(key);

@@ -1,8 +1,9 @@
 -- What a list of faces stands for: its rings in order, and its room.
-use Rattle.std.specs.Prelude.{◌≡◌, ℕ, ◌+◌, ◌<◌, ◌≤◌, Bool, true, cond, List, [], ◌∷◌, ◌++◌, map, length, vec_items, vec_capacity, slice_index_or}
+use Rattle.std.specs.Prelude.{◌≡◌, ℕ, ◌+◌, ◌<◌, ◌≤◌, cond, Result, is_ok, IsOk, ⊤, List, [], ◌∷◌, ◌++◌, map, length, vec_items, vec_capacity, slice_index_or}
 use Rattle.solid.specs.Corners.{ring_of}
 use Rattle.solid.specs.Faces.{Ring}
 use Rattle.solid.specs.declared.Corner.{Corner as StoredCorner}
+use Rattle.table.specs.declared.NoRoom.{NoRoom}
 use Rattle.faces.specs.Cuts.{cut}
 use Rattle.faces.specs.declared.held.Faces.{Faces}
 
@@ -26,9 +27,9 @@ abbrev pub Room : Faces → ℕ → ℕ → Type 0
 Room f faces corners = (faces ≤ vec_capacity f.ends) × (corners ≤ vec_capacity f.corners)
 
 -- what pushing a ring answers, and what it leaves
-pub record Pushed (f : Faces) (ring : List StoredCorner) (g : Faces) (r : Bool) : Type 0 where
+pub record Pushed (f : Faces) (ring : List StoredCorner) (g : Faces) (r : Result ⊤ NoRoom) : Type 0 where
   -- it refuses only where there is no room
-  pub answer : (faces corners : ℕ) → Room f faces corners → length (stored_rings f) < faces → length (stored_corners f) + length ring ≤ corners → r ≡ true
-  pub rings : stored_rings g ≡ cond r (stored_rings f ++ ring ∷ []) (stored_rings f)
-  pub corners : stored_corners g ≡ cond r (stored_corners f ++ ring) (stored_corners f)
+  pub answer : (faces corners : ℕ) → Room f faces corners → length (stored_rings f) < faces → length (stored_corners f) + length ring ≤ corners → IsOk r
+  pub rings : stored_rings g ≡ cond (is_ok r) (stored_rings f ++ ring ∷ []) (stored_rings f)
+  pub corners : stored_corners g ≡ cond (is_ok r) (stored_corners f ++ ring) (stored_corners f)
   pub room : (faces corners : ℕ) → Room f faces corners → Room g faces corners

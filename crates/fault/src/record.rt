@@ -4,6 +4,8 @@ ghost use Rattle.fault.specs.declared.record.RecordFault.TheVariants.{Text};
 ghost use Rattle.std.specs.Prelude.{◌≡◌};
 
 use crate::text::TextFault;
+use std::error::Error;
+use std::fmt;
 
 #[derive(Clone, Copy, Debug, PartialEq, Eq)]
 pub enum RecordFault {
@@ -51,3 +53,26 @@ impl From<(u32, TextFault)> for RecordFault {
         RecordFault::Text { record, fault }
     }
 }
+
+impl fmt::Display for RecordFault {
+    fn fmt<W: fmt::Write>(&self, f: &mut fmt::Formatter<W>) -> fmt::Result {
+        let number = self.number();
+        match self {
+            RecordFault::Text { record, fault } => write!(f, "{fault}, in record {record}"),
+            RecordFault::Absent { record }
+            | RecordFault::Outside { record }
+            | RecordFault::Keyword { record }
+            | RecordFault::Count { record } => write!(f, "fault {number} at record {record}"),
+            RecordFault::Kind { record, attribute }
+            | RecordFault::Value { record, attribute }
+            | RecordFault::Twice { record, attribute } => {
+                write!(
+                    f,
+                    "fault {number} at record {record}, attribute {attribute}"
+                )
+            }
+        }
+    }
+}
+
+impl Error for RecordFault {}

@@ -4,6 +4,8 @@ ghost use Rattle.fault.specs.declared.shape.ShapeFault.TheVariants.{Source};
 ghost use Rattle.std.specs.Prelude.{◌≡◌};
 
 use crate::record::RecordFault;
+use std::error::Error;
+use std::fmt;
 
 // `face` is the position of the face asked or entered, from 1, or 0 where no face was; the faults of a whole hull have none.
 #[derive(Clone, Copy, Debug, PartialEq, Eq)]
@@ -61,3 +63,28 @@ impl From<(usize, RecordFault)> for ShapeFault {
         ShapeFault::Source { face, fault }
     }
 }
+
+impl fmt::Display for ShapeFault {
+    fn fmt<W: fmt::Write>(&self, f: &mut fmt::Formatter<W>) -> fmt::Result {
+        let number = self.number();
+        match self {
+            ShapeFault::Source { face, fault } => write!(f, "{fault}, for face {face}"),
+            ShapeFault::CornerCount { face }
+            | ShapeFault::NotPlanar { face }
+            | ShapeFault::Crossing { face }
+            | ShapeFault::Full { face } => write!(f, "fault {number} at face {face}"),
+            ShapeFault::Corner { face, key } => write!(
+                f,
+                "fault {number} at face {face}, key {key}"
+            ),
+            ShapeFault::EdgeTwice { face, from, to } => {
+                write!(f, "fault {number} at face {face}, edge {from} to {to}")
+            }
+            ShapeFault::OpenEdge { from, to } => write!(f, "fault {number} at edge {from} to {to}"),
+            ShapeFault::KeyCycle { key } => write!(f, "fault {number} at key {key}"),
+            ShapeFault::Disconnected | ShapeFault::NoVolume => write!(f, "fault {number}"),
+        }
+    }
+}
+
+impl Error for ShapeFault {}

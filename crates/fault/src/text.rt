@@ -2,6 +2,9 @@
 ghost use Rattle.fault.specs.Numbers.{text_number};
 ghost use Rattle.std.specs.Prelude.{◌≡◌};
 
+use std::error::Error;
+use std::fmt;
+
 #[derive(Clone, Copy, Debug, PartialEq, Eq)]
 pub enum TextFault {
     // the file is too long
@@ -36,3 +39,18 @@ impl TextFault {
         }
     }
 }
+
+impl fmt::Display for TextFault {
+    fn fmt<W: fmt::Write>(&self, f: &mut fmt::Formatter<W>) -> fmt::Result {
+        let (TextFault::TooLong { place }
+        | TextFault::NoToken { place }
+        | TextFault::Unexpected { place }
+        | TextFault::TooDeep { place }
+        | TextFault::Level { place }
+        | TextFault::NoRoom { place }
+        | TextFault::Again { place }) = self;
+        write!(f, "fault {} at place {place}", self.number())
+    }
+}
+
+impl Error for TextFault {}

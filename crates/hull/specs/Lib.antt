@@ -2,5 +2,4 @@ pub mod Counts
 pub mod Meaning
 pub mod Law
 pub mod Certificates
-pub mod Tests
 pub mod Promise

@@ -1,80 +1,59 @@
-// What the tests share: corners, plates of many corners, and tables of rings with what entering each must answer.
+// What the tests share: a hull under test, and rings with what entering each must answer.
 use fault::shape::ShapeFault;
 use hull::hull::Hull;
+use samples::answers::Answers;
 use solid::Corner;
-use std::alloc::{AllocError, Global};
+use std::alloc::Global;
 use std::process::Abort;
 use std::test::Fail;
 
-// A ring, and the fault that it must give, if any.
+// A ring, and what entering it must answer.
 #[derive(Clone, Copy)]
 pub(crate) struct Case<'a> {
     pub ring: &'a [Corner],
-    pub fault: Option<ShapeFault>,
+    pub answer: Result<(), ShapeFault>,
 }
 
 pub(crate) fn good(ring: &[Corner]) -> Case<'_> {
-    Case { ring, fault: None }
+    Case {
+        ring,
+        answer: Ok(()),
+    }
 }
 
 pub(crate) fn bad(ring: &[Corner], fault: ShapeFault) -> Case<'_> {
     Case {
         ring,
-        fault: Some(fault),
+        answer: Err(fault),
     }
 }
 
-pub(crate) fn corner(key: u32, x: i32, y: i32, z: i32) -> Corner {
-    Corner {
-        key,
-        position: [x, y, z],
+// A hull under test, which a fault must leave as it was.
+#[derive(Drop)]
+pub(crate) struct Trial<'a, R> {
+    pub rt: &'a R,
+    pub hull: Hull,
+}
+
+impl<'a, R> Trial<'a, R> {
+    pub(crate) fn new(rt: &'a R, heap: Global) -> Result<Trial<'a, R>, Fail> {
+        let hull = Hull::new(heap)?;
+        Ok(Trial { rt, hull })
     }
 }
 
-// The ring of `count` corners on a parabola at the height z, keys from `first` on, every `step`-th one.
-pub(crate) fn plate(
-    heap: Global,
-    first: u16,
-    z: u8,
-    step: u8,
-    count: u8,
-) -> Result<Vec<Corner>, AllocError> {
-    let mut ring = Vec::new(heap);
-    for i in 0..count {
-        let place = u16::from(i) * u16::from(step);
-        let x = i32::from(place);
-        let y = x.wrapping_mul(x);
-        ring.push(corner(u32::from(first) + u32::from(place), x, y, i32::from(z)))?;
+impl<'a, R: Abort> Trial<'a, R> {
+    pub(crate) fn enter(&mut self, case: Case<'_>) {
+        let before = Answers::of(&self.hull);
+        assert_eq!(self.rt; self.hull.enter(case.ring), case.answer);
+        if case.answer.is_err() {
+            assert_eq!(self.rt; Answers::of(&self.hull), before);
+        }
     }
-    Ok(ring)
-}
 
-// The counts of a hull.
-fn counts(hull: &Hull) -> (usize, usize, usize, usize, i64) {
-    (
-        hull.face_count(),
-        hull.key_count(),
-        hull.edge_count(),
-        hull.open_edge_count(),
-        hull.kept_volume(),
-    )
-}
-
-// Enters a ring; a fault must be the expected one, and leave the counts.
-pub(crate) fn enter(rt: &impl Abort, hull: &mut Hull, case: Case<'_>) -> Result<(), Fail> {
-    let before = counts(hull);
-    let Some(fault) = case.fault else {
-        assert_eq!(rt; hull.enter(case.ring), Ok(()));
-        return Ok(());
-    };
-    assert_eq!(rt; hull.enter(case.ring), Err(fault));
-    assert!(rt; counts(hull) == before);
-    Ok(())
-}
-
-pub(crate) fn enter_all(rt: &impl Abort, hull: &mut Hull, cases: &[Case<'_>]) -> Result<(), Fail> {
-    for case in cases {
-        enter(rt, hull, *case)?;
+    pub(crate) fn enter_all(&mut self, cases: &[Case<'_>]) {
+        for case in cases {
+            self.enter(*case);
+        }
     }
-    Ok(())
 }

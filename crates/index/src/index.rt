@@ -5,6 +5,7 @@ use faces::held::Faces;
 use table::Table;
 
 mod calls;
+pub mod closed;
 mod entering;
 mod growth;
 mod limits;

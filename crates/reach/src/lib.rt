@@ -2,43 +2,37 @@
 #![tactic(auto)]
 
 ghost use Rattle.std.specs.Prelude.{◌<◌, length, Decides};
-ghost use Rattle.index.specs.Meaning.{faces_of};
+ghost use Rattle.index.specs.Closed.{faces_in};
 ghost use Rattle.reach.specs.Sets.{Expanded};
-ghost use Rattle.solid.specs.Soundness.{Closed, FromFirst};
+ghost use Rattle.solid.specs.Soundness.{FromFirst};
 
 use crate::reached::Reached;
-use index::index::Index;
+use index::index::closed::ClosedIndex;
 
 mod reached;
 
 // Adds each face across an edge of this one.
-fn expand(index: &Index, reached: &mut Reached, face: usize)
-    requires closed { Closed (faces_of index.now) }
-    requires within { face < length (faces_of index.now) }
-    ensures { Expanded (faces_of index.now) face reached.old reached.new }
+fn expand(closed: &ClosedIndex<'_>, reached: &mut Reached, face: usize)
+    requires { face < length (faces_in closed.now) }
+    ensures { Expanded (faces_in closed.now) face reached.old reached.new }
 {
-    let (from, to) = index.span(face);
-    for place in from..to {
-        reached.add(index.across(place));
+    for place in closed.index().span(face) {
+        reached.add(closed.across(place));
     }
 }
 
 // Whether the first face reaches every face: as many faces are reached as there are.
-pub fn is_connected(index: &Index) -> bool
-    requires { Closed (faces_of index.now) }
-    ensures { Decides result (FromFirst (faces_of index.now)) }
+pub fn is_connected(closed: &ClosedIndex<'_>) -> bool
+    ensures { Decides result (FromFirst (faces_in closed.now)) }
 {
-    let faces = index.face_count();
+    let faces = closed.index().face_count();
     if faces == 0 {
         return true;
     }
     let mut reached = Reached::none();
     reached.add(0);
-    let mut done = 0;
-    while done < reached.len() {
-        let face = reached.at(done);
-        expand(index, &mut reached, face);
-        done += 1;
+    while let Some(face) = reached.next() {
+        expand(closed, &mut reached, face);
     }
     reached.count() == faces
 }

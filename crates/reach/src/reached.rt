@@ -1,19 +1,18 @@
-// The faces that are reached: a set, and a queue in the order in which they were.
+// The faces that are reached: a set, and those of them whose edges are still to be crossed.
+ghost use Rattle.arrayvec.specs.ArrayVec.{array_vec_len};
 ghost use Rattle.marks.specs.Bits.{members, ones_of};
-ghost use Rattle.solid.specs.Lists.{has as has_in};
-ghost use Rattle.std.specs.Prelude.{◌≡◌, ℕ, false, length, take, nat_eq, slice_index_or};
+ghost use Rattle.std.specs.Prelude.{◌≤◌};
 
+use arrayvec::ArrayVec;
 use marks::Marks;
 
 mod calls;
 
-// A set of faces, of which a hull has at most 512.
+// A set of faces, of which a hull has at most 512. A face waits from when it is reached until its edges are crossed, so those that wait are no
+// more than those in the set, and have room.
 #[derive(Drop)]
 pub(crate) struct Reached {
     marks: Marks<8>,
-    queue: [usize; 512],
-    filled: usize,
-    ghost long: { length queue ≡ 512 },
-    ghost many: { filled ≡ ones_of (members marks.words) },
-    ghost same: { (g : ℕ) → slice_index_or (members marks.words) g false ≡ has_in nat_eq g (take filled queue) },
+    waiting: ArrayVec<usize, 512>,
+    ghost few: { array_vec_len waiting ≤ ones_of (members marks.words) },
 }

@@ -1,6 +1,6 @@
 -- The corners and edges of a ring by their places in the program's list.
-use Rattle.std.proofs.Common.{◌≡◌, ℕ, zero, suc, ◌+◌, ◌<◌, ◌≤◌, ltb, List, [], ◌∷◌, ◌++◌, map, length, get_or, sym, refl, ap, ◌∙◌, subst, inl, inr, add-one, arith}
-use Rattle.std.proofs.lemmas.List.{get_or_append_left, get_or_push, get_or-map, length-map}
+use Rattle.std.proofs.Common.{◌≡◌, ℕ, zero, suc, ◌+◌, ◌<◌, ◌≤◌, ltb, List, [], ◌∷◌, ◌++◌, map, length, get_or, drop, sym, refl, ap, ◌∙◌, subst, inl, inr, add-one, arith}
+use Rattle.std.proofs.lemmas.List.{get_or_append_left, get_or_push, get_or-map, length-map, at_drop_more, drop_all}
 use Rattle.std.proofs.lemmas.Bool.{cases_lt, cases_order, cond-true, cond-false, cond_both, lt-ltb, le-ltb, ltb-true, ltb-false}
 use Rattle.std.proofs.lemmas.Bool.Decides.{nat_tests}
 use Rattle.algebra.specs.Vector.{Inside}
@@ -72,6 +72,15 @@ edge_from r e h =
     let l : t.0 < length r = omega (arith, t.1, edges_length r) in
     (t.0, l, t.2 ∙ edges_at r no_edge t.0 l)
 
+-- ---- the edges from a place on
+pub left_at : (r : List StoredCorner) (i n : ℕ) → i < length r → n ≡ following (length r) i → drop i (edges (ring_of r)) ≡ (corner r i, corner r n) ∷ drop (i + 1) (edges (ring_of r))
+left_at r i n l e =
+    at_drop_more (λ es. es) (edges (ring_of r)) i no_edge (omega (arith, edges_length r))
+    ∙ ap (λ (f : Edge). f ∷ drop (i + 1) (edges (ring_of r))) (edges_at r no_edge i l ∙ ap (λ m. (corner r i, corner r m)) (sym e))
+
+pub none_left : (r : List StoredCorner) (i : ℕ) → length r ≤ i → drop i (edges (ring_of r)) ≡ []
+none_left r i l = drop_all i (edges (ring_of r)) (omega (arith, edges_length r))
+
 -- ---- different keys
 abbrev keys_of : List StoredCorner → List ℕ
 keys_of r = map (λ c. c.key) (ring_of r)
@@ -106,6 +115,22 @@ following_apart k i h l = cond_both (ltb (i + 1) k) (i + 1) 0 (λ n. n ≡ i →
 
 pub following_within : (k i : ℕ) → i < k → following k i < k
 following_within k i l = cond_both (ltb (i + 1) k) (i + 1) 0 (λ n. n < k) (λ e. ltb-true (i + 1) k e) (λ _. omega arith)
+
+-- ---- edges of which the place is known
+module _ (r : List StoredCorner) (tidy : Tidy (ring_of r)) where
+  pub edge_inside : (i : ℕ) → i < length r → (e : Edge) → e ≡ edge r i → Inside e.0.position × Inside e.1.position
+  edge_inside i l e p =
+      subst (λ (f : Edge). Inside f.0.position × Inside f.1.position) (sym p) (inside_at r tidy i l, inside_at r tidy (following (length r) i) (following_within (length r) i l))
+
+  pub starts_apart : (i j : ℕ) → j < length r → i < j → (e f : Edge) → e ≡ edge r i → f ≡ edge r j → e.0 ≡ f.0 → ⊥
+  starts_apart i j j-in l e f p q same =
+      apart_at r tidy i j (omega (arith, l, j-in)) j-in l (ap (λ (x : Edge). x.0) (sym p) ∙ same ∙ ap (λ (x : Edge). x.0) q)
+
+  pub ends_meet : (i j : ℕ) → i < length r → j < length r → (e f : Edge) → e ≡ edge r i → f ≡ edge r j → e.1.key ≡ f.0.key → e.1 ≡ f.0
+  ends_meet i j i-in j-in e f p q same =
+      ap (λ (x : Edge). x.1) p
+      ∙ same_key r tidy (following (length r) i) j (following_within (length r) i i-in) j-in (ap (λ (x : Edge). x.1.key) (sym p) ∙ same ∙ ap (λ (x : Edge). x.0.key) q)
+      ∙ ap (λ (x : Edge). x.0) (sym q)
 
 -- no edge of a ring is the reverse of another: from the end of an edge the ring does not go straight back
 pub no_reverse : (r : List StoredCorner) → Tidy (ring_of r) → (e : Edge) → In e (edges (ring_of r)) → In (flip e) (edges (ring_of r)) → ⊥

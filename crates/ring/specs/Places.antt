@@ -19,6 +19,10 @@ following k i = cond (nat_lt (i + 1) k) (i + 1) 0
 abbrev pub edge : List StoredCorner → ℕ → Edge
 edge r i = (corner r i, corner r (following (length r) i))
 
+-- an edge of the code, in the words of the rules
+abbrev pub edge_of : StoredCorner × StoredCorner → Edge
+edge_of e = (corner_of e.0, corner_of e.1)
+
 -- two edges that are clear of each other both ways round
 pub record Clear (e f : Edge) : Type 0 where
   pub there : NoCrossing e f

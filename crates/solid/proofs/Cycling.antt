@@ -1,5 +1,5 @@
 -- Going round every key in rising order: what is known after some of the edges, and what the first edge that was not come by says.
-use Rattle.std.proofs.Common.{◌≡◌, ℕ, ◌+◌, ◌<◌, ◌≤◌, ◌⊎◌, List, length, get_or, sym, refl, ap, ◌∙◌, subst, inl, inr, arith, below_more}
+use Rattle.std.proofs.Common.{◌≡◌, ℕ, suc, ◌+◌, ◌<◌, ◌≤◌, ◌⊎◌, List, length, get_or, Option, None, Some, sym, refl, ap, ◌∙◌, subst, inl, inr, arith, below_more}
 use Rattle.std.proofs.lemmas.Bool.{cases_order}
 use Rattle.solid.specs.Lists.{In}
 use Rattle.solid.specs.Faces.{Corner, Ring, all_edges}
@@ -31,55 +31,55 @@ module _ (fs : List Ring) (order : List ℕ) where
   abbrev pub Opens : ℕ → Type 0
   Opens j = (k : ℕ) → k < j → keyed k < keyed j
 
-  -- the first i edges are come by, from the first edge of each key on; the last key is `last`, or 0 where there is none
-  pub record Rounds (M : ℕ → Type 0) (i last : ℕ) : Type 0 where
+  -- the key of the last of the first i edges, where there is one
+  abbrev pub Latest : ℕ → Option ℕ → Type 0
+  Latest i None = i ≡ 0
+  Latest i (Some v) = (j : ℕ) × (i ≡ suc j) × (keyed j ≡ v)
+
+  -- the first i edges are come by, from the first edge of each key on
+  pub record Rounds (M : ℕ → Type 0) (i : ℕ) (last : Option ℕ) : Type 0 where
     pub met : (j : ℕ) → j < i → M (placed j)
     pub stays : NoStepLeaves fs M
     pub roots : (p : ℕ) → M p → (j : ℕ) × (j < i) × Opens j × Goes fs (placed j) p
-    pub below : (j : ℕ) → j < i → keyed j ≤ last
-    pub latest : (last ≡ 0) ⊎ ((j : ℕ) × (j < i) × (keyed j ≡ last))
+    pub latest : Latest i last
 
-  pub rounds_none : (M : ℕ → Type 0) → ((p : ℕ) → M p → ⊥) → Rounds M 0 0
-  rounds_none M none = record { met = λ j l. absurd (omega arith); stays = λ p q m o. absurd (none p m); roots = λ p m. absurd (none p m); below = λ j l. absurd (omega arith); latest = inl refl }
+  pub rounds_none : (M : ℕ → Type 0) → ((p : ℕ) → M p → ⊥) → Rounds M 0 None
+  rounds_none M none = record { met = λ j l. absurd (omega arith); stays = λ p q m o. absurd (none p m); roots = λ p m. absurd (none p m); latest = refl }
 
   module _ (st : Consistent fs) (by : ByKey fs order) where
-    -- a key is at least 1
-    key_some : (p : ℕ) → p < length (all_edges fs) → 1 ≤ key_at fs p
-    key_some p l =
-        let ends = ends_in_corners (edge_at fs p) fs (edge_among fs p l) in
-        let home = ring_of_lem (edge_at fs p).0 fs ends.0 in
-        ((st.proper home.0 home.1).tidy.valid (edge_at fs p).0 home.2).key.0
+    opens_new : (i : ℕ) (last : Option ℕ) → i < length order → Latest i last → (last ≡ Some (keyed i) → ⊥) → Opens i
+    opens_new i None l z new k m = absurd (omega (arith, z))
+    opens_new i (Some v) l (j, next, at) new k m =
+        let up : keyed j ≤ keyed i = by.rising j i (omega (arith, next)) l in
+        let low : keyed k ≤ keyed j = elim (cases_order k j) [
+          | inl same ↦ omega (arith, ap keyed same)
+          | inr (inl a) ↦ by.rising k j a (omega (arith, next))
+          | inr (inr b) ↦ absurd (omega (arith, next))
+        ] in
+        elim (cases_order (keyed j) (keyed i)) [ inl same ↦ absurd (new (ap Some (sym at ∙ same))) | inr (inl a) ↦ omega arith | inr (inr b) ↦ absurd (omega arith) ]
 
     -- the next edge begins at a new key, and going round from it
-    pub rounds_new : (M N : ℕ → Type 0) (i last : ℕ) → i < length order → (keyed i ≡ last → ⊥) → Rounds M i last → GoneRound fs (placed i) M N → Rounds N (i + 1) (keyed i)
+    pub rounds_new : (M N : ℕ → Type 0) (i : ℕ) (last : Option ℕ) → i < length order → (last ≡ Some (keyed i) → ⊥) → Rounds M i last → GoneRound fs (placed i) M N → Rounds N (i + 1) (Some (keyed i))
     rounds_new M N i last l new h g = record {
       met = below_more (λ j. N (placed j)) i (λ j m. g.keeps (placed j) (h.met j m)) g.first;
       stays = g.stays;
       roots = λ p n. elim (g.adds p n) [
         | inl m ↦ (let r = h.roots p m in (r.0, omega (arith, r.1), r.2, r.3))
-        | inr go ↦ (i, omega arith, opens, go)
+        | inr go ↦ (i, omega arith, opens_new i last l h.latest new, go)
       ];
-      below = below_more (λ j. keyed j ≤ keyed i) i (λ j m. omega (arith, h.below j m, last_below)) (omega arith);
-      latest = inr (i, omega arith, refl);
+      latest = (i, omega arith, refl);
     }
-      where
-        last_below : last ≤ keyed i
-        last_below = elim h.latest [ inl e ↦ omega arith | inr r ↦ omega (arith, by.rising r.0 i r.1 l, r.2) ]
-
-        opens : Opens i
-        opens k m = elim (cases_order last (keyed i)) [ inl e ↦ absurd (new (sym e)) | inr (inl a) ↦ omega (arith, h.below k m) | inr (inr b) ↦ omega (arith, last_below) ]
 
     -- the next edge begins at the last key, and was come by
-    pub rounds_same : (M : ℕ → Type 0) (i last : ℕ) → keyed i ≡ last → M (placed i) → Rounds M i last → Rounds M (i + 1) last
+    pub rounds_same : (M : ℕ → Type 0) (i : ℕ) (last : Option ℕ) → last ≡ Some (keyed i) → M (placed i) → Rounds M i last → Rounds M (i + 1) last
     rounds_same M i last e m h = record {
       met = below_more (λ j. M (placed j)) i h.met m;
       stays = h.stays;
       roots = λ p n. (let r = h.roots p n in (r.0, omega (arith, r.1), r.2, r.3));
-      below = below_more (λ j. keyed j ≤ last) i h.below (omega (arith, e));
-      latest = elim h.latest [ inl z ↦ inl z | inr r ↦ inr (r.0, omega (arith, r.1), r.2) ];
+      latest = subst (Latest (i + 1)) (sym e) (i, omega arith, refl);
     }
 
-    module _ (M : ℕ → Type 0) (i last : ℕ) (few : i ≤ length order) (h : Rounds M i last) where
+    module _ (M : ℕ → Type 0) (i : ℕ) (last : Option ℕ) (few : i ≤ length order) (h : Rounds M i last) where
       -- where all edges out of a key are come by, its faces form one cycle
       whole : (p : ℕ) → p < length (all_edges fs) → ((q : ℕ) → q < length (all_edges fs) → key_at fs q ≡ key_at fs p → M q) → Round fs (key_at fs p)
       whole p l all =
@@ -108,13 +108,13 @@ module _ (fs : List Ring) (order : List ℕ) where
       rounds_all l c j = round_met c j (λ k m e. omega arith)
 
       -- an edge at the last key that was not come by: its key is the least that fails
-      pub rounds_fail : Closed fs → i < length order → keyed i ≡ last → (M (placed i) → ⊥) → LeastNotRound fs (keyed i)
+      pub rounds_fail : Closed fs → i < length order → last ≡ Some (keyed i) → (M (placed i) → ⊥) → LeastNotRound fs (keyed i)
       rounds_fail closed l e out = record {
         some = in_map (λ (c : Corner). c.key) (edge_at fs (placed i)).0 (corners fs) (ends_in_corners (edge_at fs (placed i)) fs (edge_among fs (placed i) (by.within i l))).0;
-        fails = λ round. elim h.latest [
-          | inl z ↦ omega (arith, key_some (placed i) (by.within i l), e, z)
-          | inr r ↦ not_round fs st M h.stays closed (placed r.0) (placed i) (by.within r.0 (omega (arith, r.1))) (by.within i l) (e ∙ sym r.2) (h.met r.0 r.1) out (subst (Round fs) (e ∙ sym r.2) round)
-        ];
+        fails = λ round. (
+            let (j, next, same) = subst (Latest i) e h.latest in
+            not_round fs st M h.stays closed (placed j) (placed i) (by.within j (omega (arith, next))) (by.within i l) (sym same) (h.met j (omega (arith, next))) out (subst (Round fs) (sym same) round)
+            );
         least = λ c j less. round_met c j (λ k m same. elim (cases_order k i) [
           | inl k-is ↦ absurd (omega (arith, ap keyed k-is, same, less))
           | inr (inl before) ↦ before

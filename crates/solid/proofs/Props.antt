@@ -40,7 +40,7 @@ no_crossing_one e f p q = λ i. record {
   joined = Π_prop (λ _. Π_prop (λ (m : Meet e f). ×_prop (ℕ_one m.s m.d) (ℕ_one m.t 0))) p.joined q.joined i;
 }
 
-tidy_one : (r : Ring) → IsProp (Tidy r)
+pub tidy_one : (r : Ring) → IsProp (Tidy r)
 tidy_one r p q = λ i. record {
   sized = (le_prop p.sized.0 q.sized.0 i, le_prop p.sized.1 q.sized.1 i);
   valid = Π_prop (λ c. Π_prop (λ _. valid_one c)) p.valid q.valid i;

@@ -1,12 +1,11 @@
 -- Reaching faces over shared edges, by the numbers of faces: a set of faces that no edge leaves has every face that one of them reaches.
-use Rattle.std.proofs.Common.{◌≡◌, ℕ, ◌+◌, ◌<◌, ◌≤◌, ◌⊎◌, ◌↔◌, List, [], ◌∷◌, length, get_or, sym, refl, ap, ◌∙◌, subst, inl, inr, arith}
-use Rattle.std.proofs.lemmas.Bool.{cases_lt}
+use Rattle.std.proofs.Common.{◌≡◌, ℕ, ◌<◌, ◌≤◌, ◌⊎◌, ◌↔◌, List, [], ◌∷◌, ◌++◌, length, sym, refl, ◌∙◌, subst, inl, inr, arith}
 use Rattle.solid.specs.Lists.{In}
 use Rattle.solid.specs.Faces.{Ring, Edge, flip, edges, all_edges}
 use Rattle.solid.specs.Rules.{Consistent}
 use Rattle.solid.specs.Soundness.{Walk, here, next, Touch, FromFirst}
 use Rattle.solid.specs.Places.{no_edge, edge_at, face_at, Home, Across}
-use Rattle.solid.proofs.Members.{in_at, at_in, some_step}
+use Rattle.solid.proofs.Members.{in_append, in_at, at_in, some_step}
 use Rattle.solid.proofs.Places.{place_one, home_one, home_within, home_in, inner_place}
 
 from_first_all : (fs : List Ring) → ((g : ℕ) → g < length fs → Walk Touch fs (face_at fs 0) (face_at fs g)) → FromFirst fs
@@ -63,36 +62,46 @@ module _ (fs : List Ring) (st : Consistent fs) where
   walk_across : (f p g : ℕ) → Walk Touch fs (face_at fs 0) (face_at fs f) → Home fs p f → Across fs p g → Walk Touch fs (face_at fs 0) (face_at fs g)
   walk_across f p g w h a = next w (in_at fs [] g a.face) (edge_at fs p, home_in fs p f h, a.reverse)
 
-  -- the faces in a set are reached from the first, and no edge of the first `done` in a queue of them leaves it
-  pub record Reaching (M : ℕ → Type 0) (queue : List ℕ) (done : ℕ) : Type 0 where
+  -- the faces in a set are reached from the first, and an edge leaves it only from a face that waits
+  pub record Reaching (M : ℕ → Type 0) (waiting : List ℕ) : Type 0 where
     pub first : M 0
     pub walk : (g : ℕ) → M g → (g < length fs) × Walk Touch fs (face_at fs 0) (face_at fs g)
-    pub through : (k : ℕ) → k < done → (p g : ℕ) → Home fs p (get_or queue k 0) → Across fs p g → M g
+    pub through : (f : ℕ) → M f → In f waiting ⊎ ((p g : ℕ) → Home fs p f → Across fs p g → M g)
 
-  pub reaching_none : (M : ℕ → Type 0) (queue : List ℕ) → 0 < length fs → M 0 → ((g : ℕ) → M g → g ≡ 0) → Reaching M queue 0
-  reaching_none M queue some first only = record {
+  pub reaching_none : (M : ℕ → Type 0) (waiting : List ℕ) → 0 < length fs → M 0 → ((g : ℕ) → M g → (g ≡ 0) × In g waiting) → Reaching M waiting
+  reaching_none M waiting some first only = record {
     first = first;
-    walk = λ g m. (subst (λ n. n < length fs) (sym (only g m)) some, subst (λ n. Walk Touch fs (face_at fs 0) (face_at fs n)) (sym (only g m)) here);
-    through = λ k l. absurd (omega arith);
+    walk = λ g m. (subst (λ n. n < length fs) (sym (only g m).0) some, subst (λ n. Walk Touch fs (face_at fs 0) (face_at fs n)) (sym (only g m).0) here);
+    through = λ f m. inl (only f m).1;
   }
 
-  -- the next face of the queue is gone through
-  pub reaching_more : (M N : ℕ → Type 0) (queue longer : List ℕ) (done : ℕ) → Reaching M queue done → M (get_or queue done 0) → ((k : ℕ) → k < done + 1 → get_or longer k 0 ≡ get_or queue k 0) → ((g : ℕ) → M g → N g) → ((p g : ℕ) → Home fs p (get_or queue done 0) → Across fs p g → N g) → ((g : ℕ) → N g → M g ⊎ ((p : ℕ) × Home fs p (get_or queue done 0) × Across fs p g)) → Reaching N longer (done + 1)
-  reaching_more M N queue longer done h m same keeps all only = record {
+  -- a face waits no more: all across its edges are in the set, and those that are new there wait
+  pub reaching_more : (M N : ℕ → Type 0) (waiting longer : List ℕ) (face : ℕ) → Reaching M (waiting ++ face ∷ []) → M face → ((g : ℕ) → M g → N g) → ((g : ℕ) → In g waiting → In g longer) → ((p g : ℕ) → Home fs p face → Across fs p g → N g) → ((g : ℕ) → N g → M g ⊎ (In g longer × ((p : ℕ) × Home fs p face × Across fs p g))) → Reaching N longer
+  reaching_more M N waiting longer face h m keeps stays all only = record {
     first = keeps 0 h.first;
     walk = λ g n. elim (only g n) [
       | inl old ↦ h.walk g old
-      | inr new ↦ (new.2.face, walk_across (get_or queue done 0) new.0 g (h.walk (get_or queue done 0) m).1 new.1 new.2)
+      | inr new ↦ (new.1.2.face, walk_across face new.1.0 g (h.walk face m).1 new.1.1 new.1.2)
     ];
-    through = λ k l p g home across. elim (cases_lt k done) [
-      | inl a ↦ keeps g (h.through k a p g (subst (Home fs p) (same k l) home) across)
-      | inr b ↦ (let e : k ≡ done = omega arith in all p g (subst (Home fs p) (same k l ∙ ap (λ n. get_or queue n 0) e) home) across)
+    through = λ f n. elim (only f n) [
+      | inl old ↦ elim (h.through f old) [
+        | inl waits ↦ elim (in_append f waiting (face ∷ []) waits) [
+          | inl a ↦ inl (stays f a)
+          | inr b ↦ inr (λ p g home across. all p g (subst (Home fs p) (in_one f face b) home) across)
+        ]
+        | inr gone ↦ inr (λ p g home across. keeps g (gone p g home across))
+      ]
+      | inr new ↦ inl new.0
     ];
   }
+    where
+      in_one : (x y : ℕ) → In x (y ∷ []) → x ≡ y
+      in_one x y (inl e) = e
+      in_one x y (inr none) = absurd none
 
-  -- all faces of the queue are gone through, and all of the set are in it: the first face reaches every face exactly where the set has all
-  pub reaching_all : (M : ℕ → Type 0) (queue : List ℕ) (done : ℕ) → 0 < length fs → Reaching M queue done → ((g : ℕ) → M g → (k : ℕ) × (k < done) × (get_or queue k 0 ≡ g)) → FromFirst fs ↔ ((g : ℕ) → g < length fs → M g)
-  reaching_all M queue done some h queued = (
-    λ from g l. from_first_reached M some h.first (λ f p g m home across. (let k = queued f m in h.through k.0 k.1 p g (subst (Home fs p) (sym k.2) home) across)) from g l,
+  -- no face waits: the first face reaches every face exactly where the set has all
+  pub reaching_all : (M : ℕ → Type 0) → 0 < length fs → Reaching M [] → FromFirst fs ↔ ((g : ℕ) → g < length fs → M g)
+  reaching_all M some h = (
+    λ from g l. from_first_reached M some h.first (λ f p g m home across. elim (h.through f m) [ inl none ↦ absurd none | inr gone ↦ gone p g home across ]) from g l,
     λ all. from_first_all fs (λ g l. (h.walk g (all g l)).1),
   )

@@ -1,38 +1,31 @@
-// Tests of segments between positions whose coordinates lie within ±50,000: exact, with no rounding.
+// Segments between positions whose coordinates lie within ±50,000, and the tests of them: exact, with no rounding.
 ghost use Rattle.algebra.specs.Vector.{vector, Inside, Small};
-ghost use Rattle.algebra.specs.Segments.{Meets, OnlyCorner, On, EndOn, Shared, Crossing};
-ghost use Rattle.std.specs.Prelude.{Decides};
+ghost use Rattle.algebra.specs.Segments.{Meets, OnlyCorner, On, EndOn, Part, Shared, Crossing};
+ghost use Rattle.std.specs.Prelude.{◌≡◌, Decides};
 
-use crate::vector::{cross, difference, dot, dot_wide, is_zero};
+use crate::vector::{cross, difference, dot};
 
-// Whether p lies on the segment from a to b, which may be one point.
-fn lies_on(p: [i32; 3], a: [i32; 3], b: [i32; 3]) -> bool
-    requires point { Inside (vector p) }
-    requires start { Inside (vector a) }
-    requires end { Inside (vector b) }
-    ensures { Decides result (On (vector p) (vector a) (vector b)) }
-{
-    let f = difference(p, a);
-    let g = difference(p, b);
-    is_zero(cross(f, g)) && dot(f, g) <= 0
+// A segment between two positions in range, which may be one point.
+#[derive(Clone, Copy)]
+pub struct Segment {
+    pub from: [i32; 3],
+    pub to: [i32; 3],
+    pub ghost from_inside: { Inside (vector from) },
+    pub ghost to_inside: { Inside (vector to) },
 }
 
-// Whether an end of one of the segments from a to b and from c to e lies on the other. Of the four ends b need not be asked.
-fn an_end_lies_on(a: [i32; 3], b: [i32; 3], c: [i32; 3], e: [i32; 3]) -> bool
-    requires first { Inside (vector a) }
-    requires second { Inside (vector b) }
-    requires third { Inside (vector c) }
-    requires fourth { Inside (vector e) }
-    ensures { Decides result (EndOn (vector a) (vector b) (vector c) (vector e)) }
+// Whether s lies from 0 to d.
+fn is_part(d: i128, s: i128) -> bool
+    ensures { Decides result (Part d s) }
 {
-    lies_on(a, c, e) || lies_on(c, a, b) || lies_on(e, a, b)
+    (0..=d).contains(&s)
 }
 
 // Whether two lines at this height above each other meet, at a point that is s of d along one segment and t of d along the other.
 fn is_shared(d: i128, height: i128, s: i128, t: i128) -> bool
     ensures { Decides result (Shared d height s t) }
 {
-    height == 0 && 0 <= s && s <= d && 0 <= t && t <= d
+    height == 0 && is_part(d, s) && is_part(d, t)
 }
 
 // Whether two segments that are not parallel, along u and v, share a point, where the second starts w from the first.
@@ -45,39 +38,56 @@ fn crosses(u: [i64; 3], v: [i64; 3], w: [i64; 3]) -> bool
     let n = cross(u, v);
     let along_u = cross(w, v);
     let along_v = cross(w, u);
-    is_shared(
-        dot_wide(n, n),
-        dot_wide(w, n),
-        dot_wide(along_u, n),
-        dot_wide(along_v, n),
-    )
+    is_shared(dot(n, n), dot(w, n), dot(along_u, n), dot(along_v, n))
 }
 
-// Whether the segments from a to b and from c to e share a point.
-pub fn share_a_point(a: [i32; 3], b: [i32; 3], c: [i32; 3], e: [i32; 3]) -> bool
-    requires first { Inside (vector a) }
-    requires second { Inside (vector b) }
-    requires third { Inside (vector c) }
-    requires fourth { Inside (vector e) }
-    ensures { Decides result (Meets (vector a) (vector b) (vector c) (vector e)) }
-{
-    let u = difference(b, a);
-    let v = difference(e, c);
-    if is_zero(cross(u, v)) {
-        an_end_lies_on(a, b, c, e)
-    } else {
-        crosses(u, v, difference(c, a))
+impl Segment {
+    // The segment from one position to another.
+    pub fn new(from: [i32; 3], to: [i32; 3]) -> Segment
+        requires from { Inside (vector from) }
+        requires to { Inside (vector to) }
+        ensures { (result.from ≡ from) × (result.to ≡ to) }
+    {
+        Segment { from, to }
     }
-}
 
-// Whether the segments from a to b and from b to c share no point but b: they bend there, or go on straight.
-pub fn share_only_the_corner(a: [i32; 3], b: [i32; 3], c: [i32; 3]) -> bool
-    requires first { Inside (vector a) }
-    requires corner { Inside (vector b) }
-    requires last { Inside (vector c) }
-    ensures { Decides result (OnlyCorner (vector a) (vector b) (vector c)) }
-{
-    let u = difference(a, b);
-    let v = difference(c, b);
-    !is_zero(cross(u, v)) || dot(u, v) < 0
+    // Whether a position lies on the segment.
+    fn has(self, p: [i32; 3]) -> bool
+        requires { Inside (vector p) }
+        ensures { Decides result (On (vector p) (vector self.from) (vector self.to)) }
+    {
+        let f = difference(p, self.from);
+        let g = difference(p, self.to);
+        cross(f, g) == [0; 3] && dot(f, g) <= 0
+    }
+
+    // Whether an end of one of the two segments lies on the other. Of the four ends the end of this one need not be asked.
+    fn touches(self, other: Segment) -> bool
+        ensures { Decides result (EndOn (vector self.from) (vector self.to) (vector other.from) (vector other.to)) }
+    {
+        other.has(self.from) || self.has(other.from) || self.has(other.to)
+    }
+
+    // Whether the two segments share a point.
+    pub fn meets(self, other: Segment) -> bool
+        ensures { Decides result (Meets (vector self.from) (vector self.to) (vector other.from) (vector other.to)) }
+    {
+        let u = difference(self.to, self.from);
+        let v = difference(other.to, other.from);
+        if cross(u, v) == [0; 3] {
+            self.touches(other)
+        } else {
+            crosses(u, v, difference(other.from, self.from))
+        }
+    }
+
+    // Whether this segment and the next, which begins where this one ends, share no point but that: they bend there, or go on straight.
+    pub fn shares_only_its_end(self, next: Segment) -> bool
+        requires { vector next.from ≡ vector self.to }
+        ensures { Decides result (OnlyCorner (vector self.from) (vector self.to) (vector next.to)) }
+    {
+        let u = difference(self.to, self.from);
+        let v = difference(next.to, next.from);
+        cross(u, v) != [0; 3] || dot(u, v) > 0
+    }
 }

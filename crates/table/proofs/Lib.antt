@@ -1,5 +1,3 @@
+pub mod Places
 pub mod Maps
-pub mod Ranks
-pub mod Entries
-pub mod Inserts
 pub mod Orders

@@ -1,48 +1,50 @@
--- What a look-up finds in pairs.
-use Rattle.std.proofs.Common.{◌≡◌, ℕ, true, false, cond, eqb, List, [], ◌∷◌, ◌++◌, take, drop, is_some, Some, None, Option, sym, refl, ap, ◌∙◌, ⊎_elim, append_assoc, take-append-drop}
-use Rattle.std.proofs.lemmas.Bool.{eq-eqb, ne_eqb, cases_eq, both_ways}
-use Rattle.std.specs.List.{insert}
-use Rattle.std.specs.Option.{option_or}
-use Rattle.table.specs.Map.{lookup}
+-- Entries in rising order of the keys as a map.
+use Rattle.std.proofs.Common.{◌≡◌, ℕ, ◌<◌, ◌≤◌, T, List, [], length, get_or, Some, None, Ok, Err, Result, is_ok, is_err, OnOk, true, is_some, true≢false, sym, refl, ap, ◌∙◌, subst}
+use Rattle.std.specs.declared.cmp.Ordering.{Ordering}
+use Rattle.std.specs.List.{insert as list_insert}
+use Rattle.std.specs.FinMap.{FinMap, is_sorted, from_sorted, empty, insert, get, entries, len, entries_sorted, same_entries_map, empty_of_len, entries-from_sorted, len-entries}
+use Rattle.table.specs.Seen.{Placed, insert_new}
 
-module _ {V : Type 0} where
-  or_other_none : (o : Option V) → option_or o None ≡ o
-  or_other_none (Some v) = refl
-  or_other_none None = refl
+module _ {K V : Type 0} (R : K → K → Ordering) where
+  pub map_nothing : from_sorted {X = V} {R = R} [] ≡ empty
+  map_nothing = empty_of_len _ (len-entries _ ∙ ap length (entries-from_sorted R [] tt))
 
-  or_other_some : (o other : Option V) → is_some o ≡ true → option_or o other ≡ o
-  or_other_some (Some v) other h = refl
-  or_other_some None other h = absurd (both_ways false refl h)
+  pub len_sorted : (es : List (K × V)) → T (is_sorted R es) → len (from_sorted {R = R} es) ≡ length es
+  len_sorted es s = len-entries _ ∙ ap length (entries-from_sorted R es s)
 
-  first_none : (o other : Option V) → option_or o other ≡ None → other ≡ None
-  first_none (Some v) other h = absurd (both_ways true (ap is_some h) refl)
-  first_none None other h = h
+module _ {K V : Type 0} (R : K → K → Ordering) (es : List (K × V)) (s : T (is_sorted R es)) (k : K) (v : V) (i : ℕ) (h : Placed (from_sorted {R = R} es) k (Err i)) where
+  now_is : entries (insert (from_sorted {R = R} es) k v) ≡ list_insert es i (k, v)
+  now_is = rw (entries-from_sorted R es s) at (h.2 v)
 
-  -- what stands in the first pairs, else what stands in the others
-  pub lookup-append : (xs ys : List (ℕ × V)) (q : ℕ) → lookup (xs ++ ys) q ≡ option_or (lookup xs q) (lookup ys q)
-  lookup-append [] ys q = refl
-  lookup-append (p ∷ xs) ys q =
-      elim (eqb p.0 q) as (λ b. cond b (Some p.1) (lookup (xs ++ ys) q) ≡ option_or (cond b (Some p.1) (lookup xs q)) (lookup ys q)) [ true ↦ refl | false ↦ lookup-append xs ys q ]
+  pub sorted_insert : T (is_sorted R (list_insert es i (k, v)))
+  sorted_insert = subst (λ xs. T (is_sorted R xs)) now_is (entries_sorted (insert (from_sorted {R = R} es) k v))
 
-  pub lookup_append_same : (xs ys zs : List (ℕ × V)) → ((q : ℕ) → lookup xs q ≡ lookup ys q) → (q : ℕ) → lookup (xs ++ zs) q ≡ lookup (ys ++ zs) q
-  lookup_append_same xs ys zs same q = lookup-append xs zs q ∙ ap (λ o. option_or o (lookup zs q)) (same q) ∙ sym (lookup-append ys zs q)
+  pub map_insert : from_sorted {R = R} (list_insert es i (k, v)) ≡ insert_new (from_sorted es) k v
+  map_insert = rw h.1 (same_entries_map _ _ (entries-from_sorted R _ sorted_insert ∙ sym now_is))
 
-  -- a pair whose number is there changes nothing at the end
-  pub lookup_kept : (ps : List (ℕ × V)) (p : ℕ × V) → is_some (lookup ps p.0) ≡ true → (q : ℕ) → lookup ps q ≡ lookup (ps ++ p ∷ []) q
-  lookup_kept ps p there q =
-      sym (lookup-append ps (p ∷ []) q ∙ ⊎_elim (λ e. or_other_some (lookup ps q) _ (rw e at there)) (λ ne. rw (ne_eqb p.0 q ne) (or_other_none (lookup ps q))) (cases_eq p.0 q))
+module _ {K V : Type 0} (R : K → K → Ordering) (es : List (K × V)) (s : T (is_sorted R es)) (k : K) (i : ℕ) where
+  -- the value that stands at the key's place
+  pub read : Placed (from_sorted {R = R} es) k (Ok i) → (x : K × V) → x ≡ get_or es i x → Some x.1 ≡ get (from_sorted {R = R} es) k
+  read h x e = ap (λ (x : K × V). Some x.1) e ∙ sym (rw (entries-from_sorted R es s) at (h.1 x))
 
-  -- a new pair may stand first or last
-  moved : (ps : List (ℕ × V)) (p : ℕ × V) → lookup ps p.0 ≡ None → (q : ℕ) → lookup (p ∷ ps) q ≡ lookup (ps ++ p ∷ []) q
-  moved ps p new q =
-      ⊎_elim (λ e. rw (lookup-append ps (p ∷ []) q, eq-eqb p.0 q e) (ap (λ o. option_or o (Some p.1)) (sym (rw e at new)))) (λ ne. rw (lookup-append ps (p ∷ []) q, ne_eqb p.0 q ne) (sym (or_other_none (lookup ps q)))) (cases_eq p.0 q)
+  pub within : Placed (from_sorted {R = R} es) k (Ok i) → i < length es
+  within h = rw (len_sorted R es s) at h.0
 
-  -- a new pair may stand anywhere
-  pub lookup_inserted : (ps : List (ℕ × V)) (i : ℕ) (p : ℕ × V) → lookup ps p.0 ≡ None → (q : ℕ) → lookup (insert ps i p) q ≡ lookup (ps ++ p ∷ []) q
-  lookup_inserted ps i p new q =
-      let parts : take i ps ++ drop i ps ≡ ps = take-append-drop i ps in
-      let rest : lookup (drop i ps) p.0 ≡ None = first_none (lookup (take i ps) p.0) _ (sym (lookup-append (take i ps) (drop i ps) p.0) ∙ ap (λ xs. lookup xs p.0) parts ∙ new) in
-      lookup-append (take i ps) (p ∷ drop i ps) q
-      ∙ ap (option_or (lookup (take i ps) q)) (moved (drop i ps) p rest q)
-      ∙ sym (lookup-append (take i ps) (drop i ps ++ p ∷ []) q)
-      ∙ ap (λ xs. lookup xs q) (sym (append_assoc (take i ps) (drop i ps) (p ∷ [])) ∙ ap (λ xs. xs ++ p ∷ []) parts)
+  pub at_most : Placed (from_sorted {R = R} es) k (Err i) → i ≤ length es
+  at_most h = rw (len_sorted R es s) at h.0
+
+module _ {K V : Type 0} {R : K → K → Ordering} (m : FinMap R V) (k : K) (v : V) (i : ℕ) (h : Placed m k (Ok i)) where
+  pub stays : m ≡ insert_new m k v
+  stays = rw (h.1 (k, v)) refl
+
+  pub not_new : get m k ≡ None → ⊥
+  not_new e = true≢false (ap is_some (sym (h.1 (k, v)) ∙ e))
+
+module _ {A E : Type 0} where
+  pub on_ok : (r : Result A E) {P : Type 0} → P → OnOk r P
+  on_ok (Ok x) p = p
+  on_ok (Err e) p = tt
+
+  pub not_both : (r : Result A E) → is_ok r ≡ true → is_err r ≡ true → ⊥
+  not_both (Ok x) p q = true≢false (sym q)
+  not_both (Err e) p q = true≢false (sym p)

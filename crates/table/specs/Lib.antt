@@ -1,3 +1,1 @@
-pub mod Map
-pub mod Rank
-pub mod Holds
+pub mod Seen

@@ -1,17 +1,28 @@
 // A sorted table with its room reserved, seen as a finite map.
 #![tactic(auto)]
 
+use std::marker::Model;
+
 mod calls;
-pub mod rank;
 
-#[derive(Clone, Copy)]
-struct Entry<K, V> {
-    key: K,
-    value: V,
-}
-
-// Values by keys, in rising order of the keys' ranks. What it holds is said by its calls: a ghost field cannot speak of a bound on `K`.
+// Values by keys, in rising order of the keys.
 #[derive(Drop)]
-pub struct Table<K, V> {
-    entries: Vec<Entry<K, V>>,
+pub struct Table<K: Ord, V> {
+    entries: Vec<(K, V)>,
 }
+
+impl<K: Ord, V> Model for Table<K, V> {
+    ghost use Rattle.std.specs.Prelude.{T, vec_capacity};
+    ghost use Rattle.std.specs.FinMap.{is_sorted};
+    ghost use Rattle.table.specs.Seen.{Seen};
+
+    ghost Value = { Seen K V };
+
+    ghost view = { λ t. record { entries = t.entries.items; room = vec_capacity t.entries } };
+
+    ghost invariant = { λ t. T (is_sorted K.cmp t.entries.items) };
+}
+
+// A new key finds no room left.
+#[derive(Clone, Copy, Debug, PartialEq, Eq)]
+pub struct NoRoom;

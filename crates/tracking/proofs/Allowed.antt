@@ -1,47 +1,44 @@
 -- The corners of a ring, one after the other: which are allowed, and which is the first that is not.
-use Rattle.std.proofs.Common.{◌≡◌, ℕ, zero, suc, ◌<◌, List, [], ◌∷◌, ◌++◌, map, length, get_or, take, sym, refl, ap, ◌∙◌, subst, inl, inr, append_assoc, append-nil, arith}
-use Rattle.std.proofs.lemmas.List.{length-map, length-take-le, get_or-take}
+use Rattle.std.proofs.Common.{◌≡◌, ◌≢◌, ℕ, zero, suc, ◌+◌, ◌<◌, List, [], ◌∷◌, ◌++◌, map, length, get_or, take, sym, refl, ap, ◌∙◌, subst, inl, inr, append_assoc, append-nil, arith}
+use Rattle.std.proofs.lemmas.List.{length-map}
 use Rattle.solid.specs.Corners.{corner_of, ring_of}
 use Rattle.solid.specs.Entering.{Allowed, AllAllowed, FirstMisfit}
 use Rattle.solid.specs.Faces.{Corner, Ring}
 use Rattle.solid.specs.Lists.{In}
 use Rattle.solid.specs.Rules.{Valid}
 use Rattle.solid.specs.declared.Corner.{Corner as StoredCorner}
-use Rattle.solid.proofs.Members.{in_at, at_in, in_map}
+use Rattle.solid.proofs.Members.{in_append, in_map}
 use Rattle.solid.proofs.Answered.{key_in}
 use Rattle.ring.specs.Places.{blank, corner}
 use Rattle.ring.proofs.Places.{corner_at}
+use Rattle.tracking.proofs.Grows.{pairs_more}
 use Rattle.tracking.specs.Tests.{Apart, AgreesWith}
 
 -- ---- one corner
-module _ (r : List StoredCorner) (i : ℕ) (i-in : i < length r) where
-  long : length (take i (ring_of r)) ≡ i
-  long = length-take-le i (ring_of r) (omega (arith, length-map r corner_of))
-
-  before_at : (j : ℕ) → j < i → In (corner r j) (take i (ring_of r))
-  before_at j l = subst (λ c. In c (take i (ring_of r))) (get_or-take i (ring_of r) j (corner_of blank) l ∙ corner_at r (corner_of blank) j (omega arith)) (in_at (take i (ring_of r)) (corner_of blank) j (omega (arith, long)))
-
-  at_before : (d : Corner) → In d (take i (ring_of r)) → (j : ℕ) × (j < i) × (d ≡ corner r j)
-  at_before d h =
-      let t = at_in (take i (ring_of r)) (corner_of blank) d h in
-      let l : t.0 < i = omega (arith, t.1, long) in
-      (t.0, l, t.2 ∙ get_or-take i (ring_of r) t.0 (corner_of blank) l ∙ corner_at r (corner_of blank) t.0 (omega (arith, l)))
-
-  pub allowed_from : (fs : List Ring) → Valid (corner r i) → Apart r i → AgreesWith fs (corner r i) → Allowed fs (take i (ring_of r)) (corner r i)
-  allowed_from fs valid apart agree = record {
+module _ (fs : List Ring) (before : List Corner) (c : Corner) where
+  pub allowed_from : Valid c → Apart before c → AgreesWith fs c → Allowed fs before c
+  allowed_from valid apart agree = record {
     valid = valid;
-    once = λ h. (let k = key_in (corner r i).key (take i (ring_of r)) h in let t = at_before k.0 k.1 in (apart t.0 t.1).0 (sym (k.2 ∙ ap (λ (c : Corner). c.key) t.2)));
+    once = λ h. (let k = key_in c.key before h in (apart k.0 k.1).0 (sym k.2));
     agree = λ d h. elim h [
-      | inl b ↦ (let t = at_before d b in (λ e. absurd ((apart t.0 t.1).0 (sym (e ∙ ap (λ (c : Corner). c.key) t.2))), λ e. absurd ((apart t.0 t.1).1 (sym (e ∙ ap (λ (c : Corner). c.position) t.2)))))
+      | inl b ↦ (λ e. absurd ((apart d b).0 (sym e)), λ e. absurd ((apart d b).1 (sym e)))
       | inr f ↦ agree d f
     ];
   }
 
-  pub allowed_apart : (fs : List Ring) → Allowed fs (take i (ring_of r)) (corner r i) → Apart r i
-  allowed_apart fs h j l = (once, λ e. once (sym ((h.agree (corner r j) (inl (before_at j l))).1 (sym e))))
+  pub allowed_apart : Allowed fs before c → Apart before c
+  allowed_apart h d i = (once, λ e. once (sym ((h.agree d (inl i)).1 (sym e))))
     where
-      once : (corner r j).key ≡ (corner r i).key → ⊥
-      once e = h.once (subst (λ k. In k (map (λ (d : Corner). d.key) (take i (ring_of r)))) e (in_map (λ (d : Corner). d.key) (corner r j) (take i (ring_of r)) (before_at j l)))
+      once : d.key ≡ c.key → ⊥
+      once e = h.once (subst (λ k. In k (map (λ (x : Corner). x.key) before)) e (in_map (λ (x : Corner). x.key) d before i))
+
+-- the corners before the next one are those before this one, and this one
+pub apart_more : (r : List StoredCorner) (i : ℕ) (c : Corner) → i < length r → Apart (ring_of (take i r)) c → ((corner r i).key ≢ c.key) × ((corner r i).position ≢ c.position) → Apart (ring_of (take (i + 1) r)) c
+apart_more r i c l before here d h = elim (in_append d (ring_of (take i r)) (corner r i ∷ []) (subst (In d) (pairs_more corner_of r i blank l) h)) [
+  | inl old ↦ before d old
+  | inr (inl e) ↦ (λ k. here.0 (sym (ap (λ (x : Corner). x.key) e) ∙ k), λ p. here.1 (sym (ap (λ (x : Corner). x.position) e) ∙ p))
+  | inr (inr none) ↦ absurd none
+]
 
 -- ---- all corners
 module _ (fs : List Ring) (d : Corner) where

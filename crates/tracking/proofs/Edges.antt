@@ -1,52 +1,53 @@
 -- What the table of edges finds, said of the faces' edges.
-use Rattle.std.proofs.Common.{◌≡◌, ℕ, zero, suc, ◌+◌, ◌<◌, Bool, true, false, cond, ◌||◌, eqb, List, [], ◌∷◌, length, get_or, is_some, Some, sym, refl, ap, ◌∙◌, subst, inl, inr, true≢false, arith, eq-eqb, eqb-true}
+use Rattle.std.proofs.Common.{◌≡◌, ℕ, zero, suc, ◌+◌, ◌<◌, Bool, true, false, cond, ◌||◌, List, [], ◌∷◌, length, filter, get_or, is_some, Some, sym, refl, ap, ◌∙◌, subst, inl, inr, true≢false, arith}
+use Rattle.std.specs.Ordering.{eq_by_cmp}
+use Rattle.std.specs.FinMap.{find}
 use Rattle.solid.specs.Corners.{ring_of}
 use Rattle.solid.specs.Entering.{AllAllowed, FirstIn}
 use Rattle.solid.specs.Faces.{Corner, Ring, Edge, flip, edges, all_edges, same_edge}
 use Rattle.solid.specs.Lists.{In, has}
-use Rattle.solid.specs.Rules.{Valid, Fresh, Consistent}
+use Rattle.solid.specs.Rules.{Fresh}
 use Rattle.solid.specs.declared.Corner.{Corner as StoredCorner}
-use Rattle.solid.proofs.Answered.{allowed_valid, agree_before}
-use Rattle.solid.proofs.Members.{edge_from as edge-start, edge_to as edge-end, ring_of_lem, ends_in_corners, at_in}
+use Rattle.solid.proofs.Answered.{agree_before}
+use Rattle.solid.proofs.Members.{edge_from as edge-start, edge_to as edge-end, ends_in_corners, at_in}
 use Rattle.solid.proofs.Tests.{edge_tells}
 use Rattle.solid.proofs.Cancel.{in_from_has, has_from_in}
 use Rattle.ring.specs.Places.{edge}
 use Rattle.ring.proofs.Places.{edges_at, edges_length, no_edge}
-use Rattle.table.specs.Map.{lookup}
-use Rattle.table.proofs.Ranks.{pair_same}
-use Rattle.tracking.specs.Tables.{edge_rank, edge_pairs}
+use Rattle.tracking.specs.Tables.{edge_cmp, end_keys, edge_pairs}
+use Rattle.tracking.proofs.Orders.{ends_test}
 use Rattle.tracking.specs.Tests.{AgreesWith}
 
--- an edge whose rank tells it from each of some others is found exactly where it is one of them
-pub found_is : (e : Edge) (i : ℕ) (es : List Edge) → ((x : Edge) → In x es → edge_rank x ≡ edge_rank e → x ≡ e) → is_some (lookup (edge_pairs i es) (edge_rank e)) ≡ has same_edge e es
+-- an edge whose keys tell it from each of some others is found exactly where it is one of them
+pub found_is : (e : Edge) (i : ℕ) (es : List Edge) → ((x : Edge) → In x es → end_keys x ≡ end_keys e → x ≡ e) → is_some (find edge_cmp (end_keys e) (edge_pairs i es)) ≡ has same_edge e es
 found_is e i [] tells = refl
-found_is e i (x ∷ es) tells = go (eqb (edge_rank x) (edge_rank e)) (same_edge e x) refl refl (found_is e (i + 1) es (λ y j. tells y (inr j)))
+found_is e i (x ∷ es) tells = go (eq_by_cmp edge_cmp (end_keys e) (end_keys x)) (same_edge e x) refl refl (found_is e (i + 1) es (λ y j. tells y (inr j)))
   where
-    go : (b s : Bool) → eqb (edge_rank x) (edge_rank e) ≡ b → same_edge e x ≡ s → is_some (lookup (edge_pairs (i + 1) es) (edge_rank e)) ≡ has same_edge e es → is_some (cond b (Some i) (lookup (edge_pairs (i + 1) es) (edge_rank e))) ≡ (s || has same_edge e es)
+    go : (b s : Bool) → eq_by_cmp edge_cmp (end_keys e) (end_keys x) ≡ b → same_edge e x ≡ s → is_some (find edge_cmp (end_keys e) (edge_pairs (i + 1) es)) ≡ has same_edge e es → is_some (cond b (Some i) (find edge_cmp (end_keys e) (edge_pairs (i + 1) es))) ≡ (s || has same_edge e es)
     go true true p q later = refl
-    go true false p q later = absurd (true≢false (sym (subst (λ y. same_edge e y ≡ true) (sym (tells x (inl refl) (eqb-true (edge_rank x) (edge_rank e) p))) (edge_tells.itself e)) ∙ q))
-    go false true p q later = absurd (true≢false (sym (eq-eqb (edge_rank x) (edge_rank e) (ap edge_rank (sym (edge_tells.equal e x q)))) ∙ p))
+    go true false p q later = absurd (true≢false (sym (subst (λ y. same_edge e y ≡ true) (sym (tells x (inl refl) (sym (ends_test.equal (end_keys e) (end_keys x) p)))) (edge_tells.itself e)) ∙ q))
+    go false true p q later = absurd (true≢false (sym (ends_test.itself (end_keys e)) ∙ ap (λ y. eq_by_cmp edge_cmp (end_keys e) (end_keys y)) (edge_tells.equal e x q) ∙ p))
     go false false p q later = later
 
--- keys tell an edge of valid corners that agree with the faces from the faces' edges
-pub rank_tells_edges : (fs : List Ring) → Consistent fs → (e : Edge) → Valid e.0 → Valid e.1 → AgreesWith fs e.0 → AgreesWith fs e.1 → (x : Edge) → In x (all_edges fs) → edge_rank x ≡ edge_rank e → x ≡ e
-rank_tells_edges fs consistent e v w a b x i r =
+-- keys tell an edge of corners that agree with the faces from the faces' edges
+pub end_keys_tell : (fs : List Ring) (e : Edge) → AgreesWith fs e.0 → AgreesWith fs e.1 → (x : Edge) → In x (all_edges fs) → end_keys x ≡ end_keys e → x ≡ e
+end_keys_tell fs e a b x i r =
     let ends = ends_in_corners x fs i in
-    let home = ring_of_lem x.1 fs ends.1 in
-    let keys = pair_same x.0.key x.1.key e.0.key e.1.key ((consistent.proper home.0 home.1).tidy.valid x.1 home.2).key.1 w.key.1 r in
-    let first = (a x.0 ends.0).0 (sym keys.0) in
-    let second = (b x.1 ends.1).0 (sym keys.1) in
-    λ t. (record { key = keys.0 t; position = sym first t }, record { key = keys.1 t; position = sym second t })
+    let from : x.0.key ≡ e.0.key = ap (λ p. p.0) r in
+    let to : x.1.key ≡ e.1.key = ap (λ p. p.1) r in
+    let first = (a x.0 ends.0).0 (sym from) in
+    let second = (b x.1 ends.1).0 (sym to) in
+    λ t. (record { key = from t; position = sym first t }, record { key = to t; position = sym second t })
 
 -- ---- the edges of a ring whose corners are allowed
-module _ (fs : List Ring) (consistent : Consistent fs) (r : Ring) (allowed : AllAllowed fs [] r) where
-  told : (c d : Corner) → In c r → In d r → (x : Edge) → In x (all_edges fs) → edge_rank x ≡ edge_rank (c, d) → x ≡ (c, d)
-  told c d i j = rank_tells_edges fs consistent (c, d) (allowed_valid fs [] r allowed c i) (allowed_valid fs [] r allowed d j) (λ x k. agree_before fs [] r allowed c x i (inr k)) (λ x k. agree_before fs [] r allowed d x j (inr k))
+module _ (fs : List Ring) (r : Ring) (allowed : AllAllowed fs [] r) where
+  told : (c d : Corner) → In c r → In d r → (x : Edge) → In x (all_edges fs) → end_keys x ≡ end_keys (c, d) → x ≡ (c, d)
+  told c d i j = end_keys_tell fs (c, d) (λ x k. agree_before fs [] r allowed c x i (inr k)) (λ x k. agree_before fs [] r allowed d x j (inr k))
 
-  pub found_edge : (e : Edge) → In e (edges r) → is_some (lookup (edge_pairs 0 (all_edges fs)) (edge_rank e)) ≡ has same_edge e (all_edges fs)
+  pub found_edge : (e : Edge) → In e (edges r) → is_some (find edge_cmp (end_keys e) (edge_pairs 0 (all_edges fs))) ≡ has same_edge e (all_edges fs)
   found_edge e i = found_is e 0 (all_edges fs) (told e.0 e.1 (edge-start r e i) (edge-end r e i))
 
-  pub found_reverse : (e : Edge) → In e (edges r) → is_some (lookup (edge_pairs 0 (all_edges fs)) (edge_rank (flip e))) ≡ has same_edge (flip e) (all_edges fs)
+  pub found_reverse : (e : Edge) → In e (edges r) → is_some (find edge_cmp (end_keys (flip e)) (edge_pairs 0 (all_edges fs))) ≡ has same_edge (flip e) (all_edges fs)
   found_reverse e i = found_is (flip e) 0 (all_edges fs) (told e.1 e.0 (edge-end r e i) (edge-start r e i))
 
 -- ---- the first of some edges that is one of others, by its place
@@ -74,3 +75,15 @@ is_there e es b p q = in_from_has same_edge edge_tells e es (sym p ∙ q)
 
 pub not_there : (e : Edge) (es : List Edge) (b : Bool) → b ≡ has same_edge e es → b ≡ false → In e es → ⊥
 not_there e es b p q i = true≢false (sym (has_from_in same_edge edge_tells e es i) ∙ sym p ∙ q)
+
+-- ---- tests that agree on a list keep as many of it
+module _ {X : Type 0} (p q : X → Bool) where
+  kept_step : (x : X) (ys zs : List X) (a b : Bool) → a ≡ b → length ys ≡ length zs → length (cond a (x ∷ ys) ys) ≡ length (cond b (x ∷ zs) zs)
+  kept_step x ys zs true true e r = ap suc r
+  kept_step x ys zs true false e r = absurd (true≢false e)
+  kept_step x ys zs false true e r = absurd (true≢false (sym e))
+  kept_step x ys zs false false e r = r
+
+  pub kept_alike : (xs : List X) → ((x : X) → In x xs → p x ≡ q x) → length (filter p xs) ≡ length (filter q xs)
+  kept_alike [] same = refl
+  kept_alike (x ∷ xs) same = kept_step x (filter p xs) (filter q xs) (p x) (q x) (same x (inl refl)) (kept_alike xs (λ y i. same y (inr i)))

@@ -1,7 +1,11 @@
 -- How many keys the faces have, and how many a ring adds to them.
-use Rattle.std.proofs.Common.{◌≡◌, ℕ, zero, suc, ◌+◌, ◌<◌, Bool, true, false, cond, ◌||◌, eqb, List, [], ◌∷◌, ◌++◌, map, length, get_or, take, is_some, Some, sym, refl, ap, ◌∙◌, subst, ap₂, inl, inr, true≢false, append_assoc, arith, length-append, eq-eqb, eqb-true}
+use Rattle.std.proofs.Common.{◌≡◌, ℕ, zero, suc, ◌+◌, ◌<◌, ◌≤◌, Bool, true, false, not, cond, eqb, List, [], ◌∷◌, ◌++◌, map, filter, length, get_or, take, is_some, sym, refl, ap, ◌∙◌, subst, ap₂, inl, inr, true≢false, append_assoc, append-nil, arith, length-append}
 use mathlib.Core.List.{map-append}
+use Rattle.std.specs.Ordering.{nat_cmp}
+use Rattle.std.specs.Cmp.{nat_cmp_total}
+use Rattle.std.specs.FinMap.{find, from_entries, len}
 use Rattle.std.proofs.lemmas.List.{take_more, length-map}
+use Rattle.std.proofs.lemmas.List.Filters.{length-filter_more}
 use Rattle.faces.specs.Held.{stored_corners, stored_rings, rings}
 use Rattle.faces.specs.declared.held.Faces.{Faces}
 use Rattle.faces.proofs.Pushes.{corners_held}
@@ -15,28 +19,9 @@ use Rattle.solid.proofs.Members.{in_append, in_left, edges_length, all_edges_mor
 use Rattle.solid.proofs.Perms.{kinds_push}
 use Rattle.solid.proofs.Tests.{number_tells}
 use Rattle.ring.specs.Places.{blank}
-use Rattle.table.specs.Map.{lookup}
 use Rattle.tracking.specs.Tables.{key_pairs}
-
--- ---- a number is found exactly where it is one of those in the pairs
-eqb_turn : (m n : ℕ) → eqb m n ≡ eqb n m
-eqb_turn m n = go (eqb m n) (eqb n m) refl refl
-  where
-    go : (a b : Bool) → eqb m n ≡ a → eqb n m ≡ b → a ≡ b
-    go true true p q = refl
-    go true false p q = absurd (true≢false (sym (eq-eqb n m (sym (eqb-true m n p))) ∙ q))
-    go false true p q = absurd (true≢false (sym (eq-eqb m n (sym (eqb-true n m q))) ∙ p))
-    go false false p q = refl
-
-pub found_pair : {V : Type 0} (ps : List (ℕ × V)) (q : ℕ) → is_some (lookup ps q) ≡ has eqb q (map (λ p. p.0) ps)
-found_pair [] q = refl
-found_pair (p ∷ ps) q =
-    elim (eqb p.0 q) as (λ b. is_some (cond b (Some p.1) (lookup ps q)) ≡ (b || has eqb q (map (λ p. p.0) ps))) [ true ↦ refl | false ↦ found_pair ps q ]
-    ∙ ap (λ b. b || has eqb q (map (λ p. p.0) ps)) (eqb_turn p.0 q)
-
-pub firsts : {X V : Type 0} (f : X → ℕ) (g : X → V) (xs : List X) → map (λ (p : ℕ × V). p.0) (map (λ x. (f x, g x)) xs) ≡ map f xs
-firsts f g [] = refl
-firsts f g (x ∷ xs) = ap (λ t. f x ∷ t) (firsts f g xs)
+use Rattle.tracking.proofs.Orders.{number_test}
+use Rattle.tracking.proofs.Pairs.{firsts_of, firsts, found_pair, size_of_pairs}
 
 pub keys_held : (f : Faces) → map (λ (c : Corner). c.key) (corners (rings f)) ≡ map (λ (s : StoredCorner). s.key) (stored_corners f)
 keys_held f = ap (map (λ (c : Corner). c.key)) (corners_held f) ∙ stored (stored_corners f)
@@ -45,10 +30,14 @@ keys_held f = ap (map (λ (c : Corner). c.key)) (corners_held f) ∙ stored (sto
     stored [] = refl
     stored (s ∷ ss) = ap (λ t. s.key ∷ t) (stored ss)
 
-pub found_key : (f : Faces) (q : ℕ) → is_some (lookup (key_pairs (stored_corners f)) q) ≡ has eqb q (map (λ (c : Corner). c.key) (corners (rings f)))
+pub stored_keys : (f : Faces) → map (λ (s : StoredCorner). s.key) (stored_corners f) ≡ map (λ (c : Corner). c.key) (corners (rings f))
+stored_keys f = sym (keys_held f)
+
+pub found_key : (f : Faces) (q : ℕ) → is_some (find nat_cmp q (key_pairs (stored_corners f))) ≡ has eqb q (map (λ (c : Corner). c.key) (corners (rings f)))
 found_key f q =
-    found_pair (key_pairs (stored_corners f)) q
-    ∙ ap (has eqb q) (firsts (λ (s : StoredCorner). s.key) (λ s. s.position) (stored_corners f) ∙ sym (keys_held f))
+    found_pair nat_cmp (key_pairs (stored_corners f)) q
+    ∙ ap (λ t. has t q (firsts_of (key_pairs (stored_corners f)))) number_test
+    ∙ ap (has eqb q) (firsts (λ (s : StoredCorner). s.key) (λ s. s.position) (stored_corners f) ∙ stored_keys f)
 
 -- ---- different numbers, put to others one by one
 module _ (ks ns : List ℕ) (once : Distinct ns) where
@@ -81,6 +70,24 @@ module _ (ks ns : List ℕ) (once : Distinct ns) where
         | inr j ↦ new_at i l j
       ])
 
+  -- those that are new are counted
+  pub kinds_all : (i : ℕ) → i ≤ length ns → kinds eqb (ks ++ take i ns) ≡ kinds eqb ks + length (filter (λ n. not (has eqb n ks)) (take i ns))
+  kinds_all zero l = ap (kinds eqb) (append-nil ks) ∙ omega arith
+  kinds_all (suc i) l =
+      let new : ℕ → Bool = λ n. not (has eqb n ks) in
+      let n = get_or ns i 0 in
+      let next : i + 1 ≡ suc i = omega arith in
+      ap (λ k. kinds eqb (ks ++ take k ns)) (sym next)
+      ∙ kinds_more i (omega arith)
+      ∙ ap (λ m. cond (has eqb n ks) m (suc m)) (kinds_all i (omega arith))
+      ∙ one_more (has eqb n ks) (kinds eqb ks) (length (filter new (take i ns)))
+      ∙ ap (λ m. kinds eqb ks + m) (sym (length-filter_more new ns i 0 (omega arith)))
+      ∙ ap (λ k. kinds eqb ks + length (filter new (take k ns))) next
+    where
+      one_more : (b : Bool) (a m : ℕ) → cond b (a + m) (suc (a + m)) ≡ a + (m + cond (not b) 1 0)
+      one_more true a m = omega arith
+      one_more false a m = omega arith
+
 -- the keys of the faces with one ring more
 pub key_count_more : (fs : List Ring) (r : Ring) → key_count_of (fs ++ r ∷ []) ≡ kinds eqb (map (λ (c : Corner). c.key) (corners fs) ++ map (λ (c : Corner). c.key) r)
 key_count_more fs r = ap (λ (cs : List Corner). kinds eqb (map (λ (c : Corner). c.key) cs)) (corners_more fs r) ∙ ap (kinds eqb) (map-append (λ (c : Corner). c.key) (corners fs) r)
@@ -96,8 +103,11 @@ key_at_lem (s ∷ r) zero l = refl
 key_at_lem (s ∷ r) (suc i) l = key_at_lem r i (omega arith)
 
 -- ---- sizes of what is held
-pub key_size : (f : Faces) → kinds eqb (map (λ p. p.0) (key_pairs (stored_corners f))) ≡ key_count_of (rings f)
-key_size f = ap (kinds eqb) (firsts (λ (s : StoredCorner). s.key) (λ s. s.position) (stored_corners f) ∙ sym (keys_held f))
+pub key_size : (f : Faces) → len (from_entries {R = nat_cmp} (key_pairs (stored_corners f))) ≡ key_count_of (rings f)
+key_size f =
+    size_of_pairs nat_cmp_total (key_pairs (stored_corners f))
+    ∙ ap (λ t. kinds t (firsts_of (key_pairs (stored_corners f)))) number_test
+    ∙ ap (kinds eqb) (firsts (λ (s : StoredCorner). s.key) (λ s. s.position) (stored_corners f) ∙ stored_keys f)
 
 edges_are_corners : (fs : List Ring) → length (all_edges fs) ≡ length (corners fs)
 edges_are_corners [] = refl

@@ -1,3 +1,5 @@
+pub mod Pairs
+pub mod Orders
 pub mod Props
 pub mod Empty
 pub mod Finds

@@ -1,7 +1,9 @@
 -- The edges of faces by their places, as the flat memory and the table of edges have them.
-use Rattle.std.proofs.Common.{◌≡◌, ℕ, suc, ◌+◌, ◌-◌, ◌<◌, ◌≤◌, Bool, true, false, cond, eqb, List, [], ◌∷◌, ◌++◌, map, length, get_or, is_some, Some, None, Option, sym, refl, ap, ◌∙◌, subst, inl, inr, true≢false, arith, eqb-true, MatchOption}
+use Rattle.std.proofs.Common.{◌≡◌, ℕ, suc, ◌+◌, ◌-◌, ◌<◌, ◌≤◌, Bool, true, false, cond, List, [], ◌∷◌, ◌++◌, map, length, get_or, is_some, Some, None, Option, sym, refl, ap, ◌∙◌, subst, inl, inr, true≢false, arith, MatchOption}
 use mathlib.Core.List.{map-append}
 use Rattle.std.proofs.lemmas.List.{length-map, get_or-map}
+use Rattle.std.specs.Ordering.{eq_by_cmp}
+use Rattle.std.specs.FinMap.{FinMap, find, get, entries, len, len-entries, values}
 use Rattle.faces.specs.Held.{stored_corners, stored_rings, rings}
 use Rattle.faces.specs.declared.held.Faces.{Faces}
 use Rattle.faces.proofs.Pushes.{corners_held}
@@ -10,21 +12,21 @@ use Rattle.solid.specs.Cycles.{ByKey}
 use Rattle.solid.specs.Faces.{Corner, Ring, Edge, flip, steps, edges, all_edges, same_edge}
 use Rattle.solid.specs.Lists.{In, Distinct, kinds}
 use Rattle.solid.specs.Places.{no_edge, edge_at, face_at, first_place, Home, Twin, Follows}
-use Rattle.solid.specs.Rules.{Valid, corners, Consistent}
+use Rattle.solid.specs.Rules.{corners, Consistent}
 use Rattle.solid.proofs.Cancel.{has_from_in, has_not}
-use Rattle.solid.proofs.Members.{ring_of_lem, ends_in_corners}
+use Rattle.solid.proofs.Members.{ends_in_corners}
 use Rattle.solid.proofs.Places.{place_one, edge_among, next_first, face_edge, home_within}
-use Rattle.solid.proofs.Tests.{edge_tells, number_tells}
+use Rattle.solid.proofs.Tests.{edge_tells}
 use Rattle.ring.specs.Places.{blank, corner, edge, following}
 use Rattle.ring.proofs.Places.{edges_at, following_within}
-use Rattle.table.specs.Holds.{values, size_of}
-use Rattle.table.specs.Map.{lookup}
-use Rattle.table.specs.Rank.{pair_rank}
+use Rattle.table.specs.Seen.{map_of}
 use Rattle.table.specs.declared.Table.{Table}
-use Rattle.table.proofs.Orders.{rank_at, values_length, ranks_rise, value_found, value_place}
-use Rattle.tracking.specs.Tables.{edge_rank, edge_pairs, Tracks}
-use Rattle.tracking.proofs.Edges.{found_is, rank_tells_edges}
+use Rattle.table.proofs.Orders.{keys_rise, value_found, value_place}
+use Rattle.tracking.specs.Tables.{edge_cmp, end_keys, edge_pairs, Tracks}
+use Rattle.tracking.proofs.Edges.{found_is, end_keys_tell}
 use Rattle.tracking.proofs.Keys.{edge_total, face_total}
+use Rattle.tracking.proofs.Orders.{edge_cmp_total, edge_cmp_first, ends_test}
+use Rattle.tracking.proofs.Pairs.{firsts_of, size_of_pairs, tracked}
 
 -- ---- an edge begins at the corner of its place
 step_starts : (a : Corner) (cs : List Corner) (z : Corner) → map (λ (e : Edge). e.0) (steps a cs z) ≡ a ∷ cs
@@ -86,34 +88,34 @@ value_of : Option ℕ → ℕ
 value_of (Some v) = v
 value_of None = 0
 
-pair_at : (i : ℕ) (es : List Edge) (q r : ℕ) → lookup (edge_pairs i es) q ≡ Some r → (i ≤ r) × (r < i + length es) × (edge_rank (get_or es (r - i) no_edge) ≡ q)
+pair_at : (i : ℕ) (es : List Edge) (q : ℕ × ℕ) (r : ℕ) → find edge_cmp q (edge_pairs i es) ≡ Some r → (i ≤ r) × (r < i + length es) × (end_keys (get_or es (r - i) no_edge) ≡ q)
 unfolding value_of
 pair_at i [] q r h = absurd (true≢false (sym (ap is_some h)))
-pair_at i (e ∷ es) q r h = go (eqb (edge_rank e) q) refl h (pair_at (i + 1) es q r)
+pair_at i (e ∷ es) q r h = go (eq_by_cmp edge_cmp q (end_keys e)) refl h (pair_at (i + 1) es q r)
   where
-    go : (b : Bool) → eqb (edge_rank e) q ≡ b → cond b (Some i) (lookup (edge_pairs (i + 1) es) q) ≡ Some r → (lookup (edge_pairs (i + 1) es) q ≡ Some r → (i + 1 ≤ r) × (r < i + 1 + length es) × (edge_rank (get_or es (r - (i + 1)) no_edge) ≡ q)) → (i ≤ r) × (r < i + length (e ∷ es)) × (edge_rank (get_or (e ∷ es) (r - i) no_edge) ≡ q)
+    go : (b : Bool) → eq_by_cmp edge_cmp q (end_keys e) ≡ b → cond b (Some i) (find edge_cmp q (edge_pairs (i + 1) es)) ≡ Some r → (find edge_cmp q (edge_pairs (i + 1) es) ≡ Some r → (i + 1 ≤ r) × (r < i + 1 + length es) × (end_keys (get_or es (r - (i + 1)) no_edge) ≡ q)) → (i ≤ r) × (r < i + length (e ∷ es)) × (end_keys (get_or (e ∷ es) (r - i) no_edge) ≡ q)
     go true t h later =
         let same : i ≡ r = ap value_of h in
         let z : r - i ≡ 0 = omega (arith, same) in
-        (omega (arith, same), omega (arith, same), ap (λ n. edge_rank (get_or (e ∷ es) n no_edge)) z ∙ eqb-true (edge_rank e) q t)
+        (omega (arith, same), omega (arith, same), ap (λ n. end_keys (get_or (e ∷ es) n no_edge)) z ∙ sym (ends_test.equal q (end_keys e) t))
     go false t h later =
         let k = later h in
         let n : r - i ≡ suc (r - (i + 1)) = omega (arith, k.0) in
-        (omega (arith, k.0), omega (arith, k.1), ap (λ n. edge_rank (get_or (e ∷ es) n no_edge)) n ∙ k.2)
+        (omega (arith, k.0), omega (arith, k.1), ap (λ n. end_keys (get_or (e ∷ es) n no_edge)) n ∙ k.2)
 
-pair_ranks : (i : ℕ) (es : List Edge) → map (λ (p : ℕ × ℕ). p.0) (edge_pairs i es) ≡ map edge_rank es
-pair_ranks i [] = refl
-pair_ranks i (e ∷ es) = ap (λ t. edge_rank e ∷ t) (pair_ranks (i + 1) es)
+pair_keys : (i : ℕ) (es : List Edge) → firsts_of (edge_pairs i es) ≡ map end_keys es
+pair_keys i [] = refl
+pair_keys i (e ∷ es) = ap (λ t. end_keys e ∷ t) (pair_keys (i + 1) es)
 
-kinds_distinct : (ns : List ℕ) → Distinct ns → kinds eqb ns ≡ length ns
+kinds_distinct : (ks : List (ℕ × ℕ)) → Distinct ks → kinds (eq_by_cmp edge_cmp) ks ≡ length ks
 kinds_distinct [] d = refl
-kinds_distinct (n ∷ ns) d = ap (λ b. cond b (kinds eqb ns) (suc (kinds eqb ns))) (has_not eqb number_tells n ns d.0) ∙ ap suc (kinds_distinct ns d.1)
+kinds_distinct (k ∷ ks) d = ap (λ b. cond b (kinds (eq_by_cmp edge_cmp) ks) (suc (kinds (eq_by_cmp edge_cmp) ks))) (has_not (eq_by_cmp edge_cmp) ends_test k ks d.0) ∙ ap suc (kinds_distinct ks d.1)
 
-distinct_ranks : (es : List Edge) → ((x y : Edge) → In x es → In y es → edge_rank x ≡ edge_rank y → x ≡ y) → Distinct es → Distinct (map edge_rank es)
-distinct_ranks [] tell d = tt
-distinct_ranks (e ∷ es) tell d = (λ i. (let k = unmapped es i in d.0 (subst (λ (x : Edge). In x es) (sym (tell e k.0 (inl refl) (inr k.1) k.2)) k.1)), distinct_ranks es (λ x y i j. tell x y (inr i) (inr j)) d.1)
+distinct_keys : (es : List Edge) → ((x y : Edge) → In x es → In y es → end_keys x ≡ end_keys y → x ≡ y) → Distinct es → Distinct (map end_keys es)
+distinct_keys [] tell d = tt
+distinct_keys (e ∷ es) tell d = (λ i. (let k = unmapped es i in d.0 (subst (λ (x : Edge). In x es) (sym (tell e k.0 (inl refl) (inr k.1) k.2)) k.1)), distinct_keys es (λ x y i j. tell x y (inr i) (inr j)) d.1)
   where
-    unmapped : (xs : List Edge) → In (edge_rank e) (map edge_rank xs) → (x : Edge) × In x xs × (edge_rank e ≡ edge_rank x)
+    unmapped : (xs : List Edge) → In (end_keys e) (map end_keys xs) → (x : Edge) × In x xs × (end_keys e ≡ end_keys x)
     unmapped [] i = absurd i
     unmapped (x ∷ xs) (inl p) = (x, inl refl, p)
     unmapped (x ∷ xs) (inr i) = let k = unmapped xs i in (k.0, inr k.1, k.2)
@@ -122,74 +124,91 @@ module _ (fs : List Ring) (consistent : Consistent fs) where
   among : (p : ℕ) → p < length (all_edges fs) → In (edge_at fs p).0 (corners fs) × In (edge_at fs p).1 (corners fs)
   among p l = ends_in_corners (edge_at fs p) fs (edge_among fs p l)
 
-  valid_corner : (c : Corner) → In c (corners fs) → Valid c
-  valid_corner c i = let home = ring_of_lem c fs i in (consistent.proper home.0 home.1).tidy.valid c home.2
-
   -- keys tell the faces' corners' edges
-  tells : (a b : Corner) → In a (corners fs) → In b (corners fs) → (x : Edge) → In x (all_edges fs) → edge_rank x ≡ edge_rank (a, b) → x ≡ (a, b)
-  tells a b i j = rank_tells_edges fs consistent (a, b) (valid_corner a i) (valid_corner b j) (λ d k. consistent.agree a d i k) (λ d k. consistent.agree b d j k)
+  tells : (a b : Corner) → In a (corners fs) → In b (corners fs) → (x : Edge) → In x (all_edges fs) → end_keys x ≡ end_keys (a, b) → x ≡ (a, b)
+  tells a b i j = end_keys_tell fs (a, b) (λ d k. consistent.agree a d i k) (λ d k. consistent.agree b d j k)
 
-  found_at : (a b : Corner) → In a (corners fs) → In b (corners fs) → (r : ℕ) → lookup (edge_pairs 0 (all_edges fs)) (edge_rank (a, b)) ≡ Some r → (r < length (all_edges fs)) × (edge_at fs r ≡ (a, b))
+  found_at : (a b : Corner) → In a (corners fs) → In b (corners fs) → (r : ℕ) → find edge_cmp (end_keys (a, b)) (edge_pairs 0 (all_edges fs)) ≡ Some r → (r < length (all_edges fs)) × (edge_at fs r ≡ (a, b))
   found_at a b i j r h =
-      let k = pair_at 0 (all_edges fs) (edge_rank (a, b)) r h in
+      let k = pair_at 0 (all_edges fs) (end_keys (a, b)) r h in
       let z : r - 0 ≡ r = omega arith in
       let l : r < length (all_edges fs) = omega (arith, k.1) in
-      (l, tells a b i j (edge_at fs r) (edge_among fs r l) (sym (ap (λ n. edge_rank (edge_at fs n)) z) ∙ k.2))
+      (l, tells a b i j (edge_at fs r) (edge_among fs r l) (sym (ap (λ n. end_keys (edge_at fs n)) z) ∙ k.2))
 
   -- what a look-up of the reverse of an edge finds
-  twin_some : (p r : ℕ) → p < length (all_edges fs) → lookup (edge_pairs 0 (all_edges fs)) (edge_rank (flip (edge_at fs p))) ≡ Some r → Twin fs p r
+  twin_some : (p r : ℕ) → p < length (all_edges fs) → find edge_cmp (end_keys (flip (edge_at fs p))) (edge_pairs 0 (all_edges fs)) ≡ Some r → Twin fs p r
   twin_some p r l h = let a = among p l in let k = found_at (edge_at fs p).1 (edge_at fs p).0 a.1 a.0 r h in record { within = k.0; reverse = k.1 }
 
-  twin_none : (p : ℕ) → p < length (all_edges fs) → lookup (edge_pairs 0 (all_edges fs)) (edge_rank (flip (edge_at fs p))) ≡ None → In (flip (edge_at fs p)) (all_edges fs) → ⊥
+  twin_none : (p : ℕ) → p < length (all_edges fs) → find edge_cmp (end_keys (flip (edge_at fs p))) (edge_pairs 0 (all_edges fs)) ≡ None → In (flip (edge_at fs p)) (all_edges fs) → ⊥
   twin_none p l h i =
       let a = among p l in
       true≢false (sym (has_from_in same_edge edge_tells (flip (edge_at fs p)) (all_edges fs) i) ∙ sym (found_is (flip (edge_at fs p)) 0 (all_edges fs) (tells (edge_at fs p).1 (edge_at fs p).0 a.1 a.0)) ∙ ap is_some h)
 
-  pub twin_by : (p : ℕ) → p < length (all_edges fs) → (o : Option ℕ) → o ≡ lookup (edge_pairs 0 (all_edges fs)) (edge_rank (flip (edge_at fs p))) → MatchOption o (In (flip (edge_at fs p)) (all_edges fs) → ⊥) (Twin fs p)
+  pub twin_by : (p : ℕ) → p < length (all_edges fs) → (o : Option ℕ) → o ≡ find edge_cmp (end_keys (flip (edge_at fs p))) (edge_pairs 0 (all_edges fs)) → MatchOption o (In (flip (edge_at fs p)) (all_edges fs) → ⊥) (Twin fs p)
   twin_by p l (Some r) h = twin_some p r l (sym h)
   twin_by p l None h = twin_none p l (sym h)
 
   -- what a look-up of an edge finds is its place
-  own_place : (p : ℕ) → p < length (all_edges fs) → lookup (edge_pairs 0 (all_edges fs)) (edge_rank (edge_at fs p)) ≡ Some p
-  own_place p l = go (lookup (edge_pairs 0 (all_edges fs)) (edge_rank (edge_at fs p))) refl
+  own_place : (p : ℕ) → p < length (all_edges fs) → find edge_cmp (end_keys (edge_at fs p)) (edge_pairs 0 (all_edges fs)) ≡ Some p
+  own_place p l = go (find edge_cmp (end_keys (edge_at fs p)) (edge_pairs 0 (all_edges fs))) refl
     where
       a : In (edge_at fs p).0 (corners fs) × In (edge_at fs p).1 (corners fs)
       a = among p l
 
-      go : (o : Option ℕ) → lookup (edge_pairs 0 (all_edges fs)) (edge_rank (edge_at fs p)) ≡ o → o ≡ Some p
+      go : (o : Option ℕ) → find edge_cmp (end_keys (edge_at fs p)) (edge_pairs 0 (all_edges fs)) ≡ o → o ≡ Some p
       go (Some r) h = let k = found_at (edge_at fs p).0 (edge_at fs p).1 a.0 a.1 r h in ap Some (place_one (all_edges fs) no_edge consistent.once r p k.0 l k.1)
       go None h = absurd (true≢false (sym (has_from_in same_edge edge_tells (edge_at fs p) (all_edges fs) (edge_among fs p l)) ∙ sym (found_is (edge_at fs p) 0 (all_edges fs) (tells (edge_at fs p).0 (edge_at fs p).1 a.0 a.1)) ∙ ap is_some h))
 
   -- ---- the places in the table's order
-  module _ (t : Table (ℕ × ℕ) ℕ) (tracks : Tracks pair_rank t (edge_pairs 0 (all_edges fs))) where
-    in_order : (i : ℕ) → i < size_of t → (get_or (values t) i 0 < length (all_edges fs)) × (edge_rank (edge_at fs (get_or (values t) i 0)) ≡ rank_at pair_rank t (edge_pairs 0 (all_edges fs)) tracks.0 0 i)
+  module _ (t : Table (ℕ × ℕ) ℕ) (tracks : Tracks edge_cmp t (edge_pairs 0 (all_edges fs))) where
+    m : FinMap edge_cmp ℕ
+    m = map_of edge_cmp t
+
+    found_in : (q : ℕ × ℕ) → get m q ≡ find edge_cmp q (edge_pairs 0 (all_edges fs))
+    unfolding m
+    found_in = tracked edge_cmp_total t (edge_pairs 0 (all_edges fs)) tracks
+
+    size : len m ≡ length (all_edges fs)
+    unfolding m
+    size =
+        ap len tracks ∙ size_of_pairs edge_cmp_total (edge_pairs 0 (all_edges fs))
+        ∙ ap (kinds (eq_by_cmp edge_cmp)) (pair_keys 0 (all_edges fs))
+        ∙ kinds_distinct (map end_keys (all_edges fs)) (distinct_keys (all_edges fs) (λ x y i j e. (let c = ends_in_corners y fs j in tells y.0 y.1 c.0 c.1 x i e)) consistent.once)
+        ∙ length-map (all_edges fs) end_keys
+
+    entry : ℕ → (ℕ × ℕ) × ℕ
+    entry i = get_or (entries m) i ((0, 0), 0)
+
+    value_is : (i : ℕ) → i < len m → get_or (values m) i 0 ≡ (entry i).1
+    unfolding entry
+    value_is i l = get_or-map (λ (e : (ℕ × ℕ) × ℕ). e.1) (entries m) i ((0, 0), 0) 0 (rw (len-entries m) at l)
+
+    -- the place that stands at i, and its keys
+    in_order : (i : ℕ) → i < len m → (get_or (values m) i 0 < length (all_edges fs)) × (end_keys (edge_at fs (get_or (values m) i 0)) ≡ (entry i).0)
+    unfolding entry
     in_order i l =
-        let r = get_or (values t) i 0 in
-        let k = pair_at 0 (all_edges fs) _ r (value_found pair_rank t (edge_pairs 0 (all_edges fs)) tracks.0 0 i l) in
+        let r = get_or (values m) i 0 in
+        let k = pair_at 0 (all_edges fs) (entry i).0 r (sym (found_in (entry i).0) ∙ value_found edge_cmp_total m i ((0, 0), 0) l ∙ ap Some (sym (value_is i l))) in
         let z : r - 0 ≡ r = omega arith in
-        (omega (arith, k.1), sym (ap (λ n. edge_rank (edge_at fs n)) z) ∙ k.2)
+        (omega (arith, k.1), sym (ap (λ n. end_keys (edge_at fs n)) z) ∙ k.2)
 
-    size : size_of t ≡ length (all_edges fs)
-    size = tracks.1 ∙ ap (kinds eqb) (pair_ranks 0 (all_edges fs)) ∙ kinds_distinct (map edge_rank (all_edges fs)) (distinct_ranks (all_edges fs) (λ x y i j e. ranks_tell x y i j e) consistent.once) ∙ length-map (all_edges fs) edge_rank
-      where
-        ranks_tell : (x y : Edge) → In x (all_edges fs) → In y (all_edges fs) → edge_rank x ≡ edge_rank y → x ≡ y
-        ranks_tell x y i j e = let c = ends_in_corners y fs j in tells y.0 y.1 c.0 c.1 x i e
+    whole : length (values m) ≡ len m
+    whole = length-map (entries m) (λ (e : (ℕ × ℕ) × ℕ). e.1) ∙ sym (len-entries m)
 
-    pub by_key : ByKey fs (values t)
+    pub by_key : ByKey fs (values (map_of edge_cmp t))
+    unfolding m entry
     by_key = record {
       long = whole ∙ size;
-      within = λ i l. (in_order i (subst (λ n. i < n) whole l)).0;
-      every = λ p l. (let k = value_place pair_rank t (edge_pairs 0 (all_edges fs)) tracks.0 0 (edge_rank (edge_at fs p)) p (own_place p l) in (k.0, subst (λ n. k.0 < n) (sym whole) k.1, k.3));
-      rising = λ i j l m. (
-          let m' : j < size_of t = subst (λ n. j < n) whole m in
-          let a = in_order i (omega (arith, m')) in
-          let b = in_order j m' in
-          let less = ranks_rise pair_rank t (edge_pairs 0 (all_edges fs)) tracks.0 0 i j l m' in
-          let small = (valid_corner (edge_at fs (get_or (values t) i 0)).1 (among (get_or (values t) i 0) a.0).1).key.1 in
-          let small' = (valid_corner (edge_at fs (get_or (values t) j 0)).1 (among (get_or (values t) j 0) b.0).1).key.1 in
-          omega (arith, less, a.1, b.1, small, small')
+      within = λ i l. (in_order i (rw whole at l)).0;
+      every = λ p l. (
+          let k = value_place edge_cmp_total m (end_keys (edge_at fs p)) p (found_in (end_keys (edge_at fs p)) ∙ own_place p l) in
+          (k.0, subst (λ n. k.0 < n) (sym whole) k.1, value_is k.0 k.1 ∙ (k.2 ((0, 0), 0)).1)
+          );
+      rising = λ i j l n. (
+          let n' : j < len m = rw whole at n in
+          let a = in_order i (omega (arith, n')) in
+          let b = in_order j n' in
+          let keys = edge_cmp_first (entry i).0 (entry j).0 (keys_rise edge_cmp_total m i j ((0, 0), 0) l n') in
+          omega (arith, keys, ap (λ p. p.0) a.1, ap (λ p. p.0) b.1)
           );
     }
-      where
-        whole : length (values t) ≡ size_of t
-        whole = values_length pair_rank t (edge_pairs 0 (all_edges fs)) tracks.0 0

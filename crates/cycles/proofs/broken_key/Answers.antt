@@ -1,6 +1,10 @@
-use Rattle.std.proofs.Common.{◌≡◌, ℕ, ◌+◌, ◌<◌, ◌≤◌, length, get_or, sym, ap, ◌∙◌, subst, true≢false, arith, lit<}
+use Rattle.std.proofs.Common.{◌≡◌, ℕ, ◌+◌, ◌<◌, Bool, true, false, not, eqb, List, map, length, get_or, Option, None, Some, sym, refl, ap, ◌∙◌, subst, true≢false, arith, lit<, eqb-true, eq-eqb}
+use Rattle.std.specs.Option.{option_eq}
+use Rattle.std.proofs.lemmas.List.{length-map, get_or-map}
+use Rattle.index.specs.Closed.{faces_in}
 use Rattle.index.specs.Meaning.{faces_of, places_by_key}
-use Rattle.index.proofs.Meanings.{consistent, ordered}
+use Rattle.index.specs.declared.index.Index.{Index}
+use Rattle.index.proofs.Meanings.{consistent, ordered, closed_out}
 use Rattle.marks.specs.Bits.{members, Held}
 use Rattle.marks.specs.declared.Marks.{Marks}
 use Rattle.solid.specs.Certifying.{LeastNotRound}
@@ -9,78 +13,112 @@ use Rattle.solid.specs.Faces.{all_edges}
 use Rattle.solid.specs.Places.{key_at}
 use Rattle.solid.proofs.Cycling.{Rounds, rounds_none, rounds_new, rounds_same, rounds_all, rounds_fail}
 use Rattle.cycles.proofs.broken_key.Goals as goal
-use Rattle.cycles.proofs.broken_key.Goals.{After-in_order-place, After-key-key, then-key-last, else-key-last}
+use Rattle.cycles.proofs.broken_key.Goals.{After-key-key, then-ne, else-ne}
 
-in_range : (c : After-in_order-place) → c.loop-i.i < length (places_by_key c.args.index.now)
-in_range c = omega (arith, c.loop-i-test.true, c.edge_count-i-end.ensures, (ordered c.args.index.now).long)
+-- ---- the edges by key, of x, which is the index y
+module _ (x y : Index) (same : x ≡ y) (es : List ((ℕ × ℕ) × ℕ)) (by : map (λ e. e.1) es ≡ places_by_key x) where
+  order : map (λ e. e.1) es ≡ places_by_key y
+  order = by ∙ ap places_by_key same
 
-within : (c : After-in_order-place) → c.in_order-place.result < length (all_edges (faces_of c.args.index.now))
-within c = subst (λ n. n < length (all_edges (faces_of c.args.index.now))) (sym c.in_order-place.ensures) ((ordered c.args.index.now).within c.loop-i.i (in_range c))
+  long : length es ≡ length (places_by_key y)
+  long = sym (length-map es (λ e. e.1)) ∙ ap length order
 
--- the key is that of the i-th edge in order
-key_is : (c : After-key-key) → c.key-key.result ≡ key_at (faces_of c.args.index.now) (get_or (places_by_key c.args.index.now) c.loop-i.i 0)
-key_is c = c.key-key.ensures ∙ ap (key_at (faces_of c.args.index.now)) c.in_order-place.ensures
+  placed : (i : ℕ) → i < length es → (get_or es i ((0, 0), 0)).1 ≡ get_or (places_by_key y) i 0
+  placed i l = sym (get_or-map (λ (e : (ℕ × ℕ) × ℕ). e.1) es i ((0, 0), 0) 0 l) ∙ ap (λ l. get_or l i 0) order
 
-pub loop-i-init : goal.loop-i-init
-loop-i-init c = rounds_none _ _ _ (λ p h. true≢false (sym h ∙ c.none-marks.ensures p))
+  within : (i : ℕ) → i < length es → (get_or es i ((0, 0), 0)).1 < length (all_edges (faces_of y))
+  within i l = subst (λ n. n < length (all_edges (faces_of y))) (sym (placed i l)) ((ordered y).within i (omega (arith, l, long)))
 
-pub key-key-requires : goal.key-key-requires
-key-key-requires c = within c
+  keyed : (k i : ℕ) → i < length es → k ≡ key_at (faces_of x) (get_or es i ((0, 0), 0)).1 → k ≡ key_at (faces_of y) (get_or (places_by_key y) i 0)
+  keyed k i l e = e ∙ ap (λ z. key_at (faces_of z) (get_or es i ((0, 0), 0)).1) same ∙ ap (key_at (faces_of y)) (placed i l)
 
-pub go_round-requires : goal.go_round-requires
-go_round-requires c = record { closed = c.requires; within = within (goal.at.go_round-requires c).After-in_order-place; stays = c.loop-i.invariant.stays }
+-- ---- the last key
+module _ (o : Option ℕ) (k : ℕ) (t : Bool) (e : t ≡ not (option_eq eqb o (Some k))) where
+  same_key : t ≡ false → o ≡ Some k
+  same_key f = by o (sym f ∙ e)
+    where
+      by : (o : Option ℕ) → false ≡ not (option_eq eqb o (Some k)) → o ≡ Some k
+      by None g = absurd (true≢false (sym g))
+      by (Some v) g = at (eqb v k) refl g
+        where
+          at : (b : Bool) → eqb v k ≡ b → false ≡ not b → Some v ≡ Some k
+          at true p g = ap Some (eqb-true v k p)
+          at false p g = absurd (true≢false (sym g))
 
-pub has-requires : goal.has-requires
-has-requires c = (lit< tt, omega (arith, within (goal.at.has-requires c).After-in_order-place, (consistent c.args.index.now).limits.edges))
+  other_key : t ≡ true → o ≡ Some k → ⊥
+  other_key f same = true≢false (sym f ∙ e ∙ ap (λ p. not (option_eq eqb p (Some k))) same ∙ ap not (eq-eqb k k refl))
 
 held : Marks 48 → ℕ → Type 0
 held m = Held (members m.words)
 
+pub loop-place-init : goal.loop-place-init
+loop-place-init c = rounds_none _ _ _ (λ p h. true≢false (sym h ∙ c.none-marks.ensures p))
+
+pub key-key-requires : goal.key-key-requires
+key-key-requires c = subst (λ (z : Index). (get_or c.edges_by_key-place-items.result.now c.loop-place.place-index ((0, 0), 0)).1 < length (all_edges (faces_of z))) (sym c.index-index.ensures) (within _ _ c.index-index.ensures _ c.edges_by_key-place-items.ensures c.loop-place.place-index c.loop-place-test.true)
+
+pub go_round-requires : goal.go_round-requires
+go_round-requires c = record { within = within _ _ c.index-index.ensures _ c.edges_by_key-place-items.ensures c.loop-place.place-index c.loop-place-test.true; stays = c.loop-place.invariant.stays }
+
+pub has-requires : goal.has-requires
+has-requires c = (lit< tt, omega (arith, within _ _ c.index-index.ensures _ c.edges_by_key-place-items.ensures c.loop-place.place-index c.loop-place-test.true, (consistent c.args.closed.now.index.now).limits.edges))
+
+-- the place at hand is the next in order, and the key is the one at which its edge begins
+at_place : (c : After-key-key) → (get_or c.edges_by_key-place-items.result.now c.loop-place.place-index ((0, 0), 0)).1 ≡ get_or (places_by_key c.args.closed.now.index.now) c.loop-place.place-index 0
+at_place c = placed _ _ c.index-index.ensures _ c.edges_by_key-place-items.ensures c.loop-place.place-index c.loop-place-test.true
+
+key_is : (c : After-key-key) → c.key-key.result ≡ key_at (faces_in c.args.closed.now) (get_or (places_by_key c.args.closed.now.index.now) c.loop-place.place-index 0)
+key_is c = keyed _ _ c.index-index.ensures _ c.edges_by_key-place-items.ensures c.key-key.result c.loop-place.place-index c.loop-place-test.true c.key-key.ensures
+
 pub returns-then-not-has : goal.returns-then-not-has
 unfolding held
 returns-then-not-has c =
-    let x = c.args.index.now in
+    let y = c.args.closed.now.index.now in
     let b = (goal.at.returns-then-not-has c).After-key-key in
-    let i = c.loop-i.i in
-    let place = c.in_order-place.result in
-    let out : held c.if-key-last.marks place → ⊥ = λ h. true≢false (sym h ∙ sym c.has.ensures ∙ c.if-not-has.true) in
-    elim c.if-key-last.branch [
-      | then-key-last w ↦ absurd (out (subst (λ (m : Marks 48). held m place) (sym w.marks-is) w.go_round.ensures.first))
-      | else-key-last w ↦ subst (LeastNotRound (faces_of x)) (sym (key_is b))
-          (rounds_fail (faces_of x) (places_by_key x) (consistent x) (ordered x) (held c.loop-i.marks) i c.loop-i.last (omega (arith, in_range (goal.at.returns-then-not-has c).After-in_order-place)) c.loop-i.invariant c.requires (in_range (goal.at.returns-then-not-has c).After-in_order-place)
-          (sym (key_is b) ∙ w.if-key-last.false)
-          (λ h. out (subst (λ (m : Marks 48). held m place) (sym w.marks-is) (subst (held c.loop-i.marks) (sym c.in_order-place.ensures) h))))
+    let i = c.loop-place.place-index in
+    let place = (get_or c.edges_by_key-place-items.result.now i ((0, 0), 0)).1 in
+    let total = long _ _ c.index-index.ensures _ c.edges_by_key-place-items.ensures in
+    let range : i < length (places_by_key y) = omega (arith, total, c.loop-place-test.true) in
+    let out : held c.if-ne.marks place → ⊥ = λ h. true≢false (sym h ∙ sym c.has.ensures ∙ c.if-not-has.true) in
+    elim c.if-ne.branch [
+      | then-ne w ↦ absurd (out (subst (λ (m : Marks 48). held m place) (sym w.marks-is) w.go_round.ensures.first))
+      | else-ne w ↦ subst (LeastNotRound (faces_of y)) (sym (key_is b))
+          (rounds_fail (faces_of y) (places_by_key y) (consistent y) (ordered y) (held c.loop-place.marks) i c.loop-place.last (omega (arith, range)) c.loop-place.invariant (closed_out c.args.closed.now) range
+          (same_key c.loop-place.last c.key-key.result c.ne.result c.ne.ensures w.if-ne.false ∙ ap Some (key_is b))
+          (λ h. out (subst (λ (m : Marks 48). held m place) (sym w.marks-is) (subst (held c.loop-place.marks) (sym (at_place b)) h))))
     ]
 
-pub loop-i-preserved : goal.loop-i-preserved
+pub loop-place-preserved : goal.loop-place-preserved
 unfolding held
-loop-i-preserved c =
-    let x = c.args.index.now in
-    let order = places_by_key x in
-    let b = (goal.at.loop-i-preserved c).After-key-key in
-    let range = in_range (goal.at.loop-i-preserved c).After-in_order-place in
-    let i = c.loop-i.i in
-    let old = held c.loop-i.marks in
-    let met : held c.if-key-last.marks c.in_order-place.result = sym c.has.ensures ∙ c.if-not-has.false in
-    elim c.if-key-last.branch [
-      | then-key-last w ↦ (
+loop-place-preserved c =
+    let y = c.args.closed.now.index.now in
+    let order = places_by_key y in
+    let b = (goal.at.loop-place-preserved c).After-key-key in
+    let i = c.loop-place.place-index in
+    let place = (get_or c.edges_by_key-place-items.result.now i ((0, 0), 0)).1 in
+    let total = long _ _ c.index-index.ensures _ c.edges_by_key-place-items.ensures in
+    let range : i < length order = omega (arith, total, c.loop-place-test.true) in
+    let old = held c.loop-place.marks in
+    let met : held c.if-ne.marks place = sym c.has.ensures ∙ c.if-not-has.false in
+    elim c.if-ne.branch [
+      | then-ne w ↦ (
           let new = held w.go_round.new.marks in
-          let gone : GoneRound (faces_of x) (get_or order i 0) old new = subst (λ p. GoneRound (faces_of x) p old new) c.in_order-place.ensures w.go_round.ensures in
-          let rounds = rounds_new (faces_of x) order (consistent x) (ordered x) old new i c.loop-i.last range (λ e. w.if-key-last.true (key_is b ∙ e)) c.loop-i.invariant gone in
-          subst (λ (m : Marks 48). Rounds (faces_of x) order (held m) (i + 1) c.if-key-last.last) (sym w.marks-is)
-          (subst (Rounds (faces_of x) order new (i + 1)) (sym (w.last-is ∙ key_is b)) rounds)
+          let gone : GoneRound (faces_of y) (get_or order i 0) old new = subst (λ p. GoneRound (faces_of y) p old new) (at_place b) w.go_round.ensures in
+          let rounds = rounds_new (faces_of y) order (consistent y) (ordered y) old new i c.loop-place.last range
+          (λ e. other_key c.loop-place.last c.key-key.result c.ne.result c.ne.ensures w.if-ne.true (e ∙ ap Some (sym (key_is b)))) c.loop-place.invariant gone in
+          subst (λ (m : Marks 48). Rounds (faces_of y) order (held m) (i + 1) c.if-ne.last) (sym w.marks-is)
+          (subst (Rounds (faces_of y) order new (i + 1)) (sym (w.last-is ∙ ap Some (key_is b))) rounds)
           )
-      | else-key-last w ↦ (
-          let here : old (get_or order i 0) = subst (λ p. old p) c.in_order-place.ensures (subst (λ (m : Marks 48). held m c.in_order-place.result) w.marks-is met) in
-          let rounds = rounds_same (faces_of x) order (consistent x) (ordered x) old i c.loop-i.last (sym (key_is b) ∙ w.if-key-last.false) here c.loop-i.invariant in
-          subst (λ (m : Marks 48). Rounds (faces_of x) order (held m) (i + 1) c.if-key-last.last) (sym w.marks-is)
-          (subst (Rounds (faces_of x) order old (i + 1)) (sym w.last-is) rounds)
+      | else-ne w ↦ (
+          let here : old (get_or order i 0) = subst (λ p. old p) (at_place b) (subst (λ (m : Marks 48). held m place) w.marks-is met) in
+          let rounds = rounds_same (faces_of y) order (consistent y) (ordered y) old i c.loop-place.last (same_key c.loop-place.last c.key-key.result c.ne.result c.ne.ensures w.if-ne.false ∙ ap Some (key_is b)) here c.loop-place.invariant in
+          subst (λ (m : Marks 48). Rounds (faces_of y) order (held m) (i + 1) c.if-ne.last) (sym w.marks-is)
+          (subst (Rounds (faces_of y) order old (i + 1)) (sym w.last-is) rounds)
           )
     ]
 
 pub returns : goal.returns
 returns c =
-    let x = c.args.index.now in
-    let end : length (places_by_key x) ≤ c.loop-i.i = omega (arith, c.loop-i-test.false, c.edge_count-i-end.ensures, (ordered x).long) in
-    let few : c.loop-i.i ≤ length (places_by_key x) = omega (arith, c.loop-i.auto.i-end, c.edge_count-i-end.ensures, (ordered x).long) in
-    rounds_all (faces_of x) (places_by_key x) (consistent x) (ordered x) (Held (members c.loop-i.marks.words)) c.loop-i.i c.loop-i.last few c.loop-i.invariant end
+    let y = c.args.closed.now.index.now in
+    let total = long _ _ c.index-index.ensures _ c.edges_by_key-place-items.ensures in
+    rounds_all (faces_of y) (places_by_key y) (consistent y) (ordered y) (Held (members c.loop-place.marks.words)) c.loop-place.place-index c.loop-place.last (omega (arith, total, c.loop-place.auto.place-index-end)) c.loop-place.invariant (omega (arith, total, c.loop-place-test.false))

@@ -1,7 +1,8 @@
-use Rattle.index.specs.Meaning.{faces_of, places_by_key}
+use Rattle.index.specs.Closed.{faces_in}
+use Rattle.index.specs.Meaning.{places_by_key}
 use Rattle.marks.specs.Bits.{members, Held}
 use Rattle.solid.proofs.Cycling.{Rounds}
 use Rattle.cycles.proofs.broken_key.Given as goal
 
-abbrev pub invariant-loop-i : goal.invariant-loop-i
-invariant-loop-i l = Rounds (faces_of l.index) (places_by_key l.index) (Held (members l.marks.words)) l.i l.last
+abbrev pub invariant-loop-place : goal.invariant-loop-place
+invariant-loop-place l = Rounds (faces_in l.closed) (places_by_key l.closed.index.now) (Held (members l.marks.words)) l.place-index l.last

@@ -9,22 +9,22 @@ use Rattle.cycles.proofs.go_round.Goals as goal
 use Rattle.cycles.proofs.go_round.Goals.{After-has}
 
 pub loop-marks-init : goal.loop-marks-init
-loop-marks-init c = (c.requires.within, going_none (faces_of c.args.index.now) (consistent c.args.index.now) c.args.start _ c.requires.stays)
+loop-marks-init c = (c.requires.within, going_none (faces_of c.args.closed.now.index.now) (consistent c.args.closed.now.index.now) c.args.start _ c.requires.stays)
 
 pub has-requires : goal.has-requires
-has-requires c = omega (arith, c.loop-marks.invariant.0, (consistent c.args.index.now).limits.edges)
+has-requires c = omega (arith, c.loop-marks.invariant.0, (consistent c.args.closed.now.index.now).limits.edges)
 
 pub mark-requires : goal.mark-requires
-mark-requires c = omega (arith, c.loop-marks.invariant.0, (consistent c.args.index.now).limits.edges)
+mark-requires c = omega (arith, c.loop-marks.invariant.0, (consistent c.args.closed.now.index.now).limits.edges)
 
 pub onward-at-requires : goal.onward-at-requires
-onward-at-requires c = record { closed = c.requires.closed; within = c.loop-marks.invariant.0 }
+onward-at-requires c = c.loop-marks.invariant.0
 
 long : (c : After-has) → length (members c.loop-marks.marks.words) ≡ 64 * 48
 long c = length_members c.loop-marks.marks.words ∙ ap (λ n. 64 * n) c.loop-marks.marks.long
 
 fits : (c : After-has) → c.loop-marks.at < length (members c.loop-marks.marks.words)
-fits c = omega (arith, c.loop-marks.invariant.0, (consistent c.args.index.now).limits.edges, long c)
+fits c = omega (arith, c.loop-marks.invariant.0, (consistent c.args.closed.now.index.now).limits.edges, long c)
 
 pub loop-marks-smaller : goal.loop-marks-smaller
 loop-marks-smaller c =
@@ -38,13 +38,13 @@ loop-marks-smaller c =
 pub loop-marks-preserved : goal.loop-marks-preserved
 loop-marks-preserved c =
     let w = (goal.at.loop-marks-preserved c).After-has in
-    let fs = faces_of c.args.index.now in
+    let fs = faces_of c.args.closed.now.index.now in
     let at = c.loop-marks.at in
     let xs = members c.loop-marks.marks.words in
     let ys = members c.mark.new.self.words in
     let new = c.mark.ensures in (
       c.onward-at.ensures.within,
-      going_more fs (consistent c.args.index.now) c.args.start (Held (members c.args.marks.now.words)) (Held xs) (Held ys) at c.onward-at.result c.onward-at.ensures
+      going_more fs (consistent c.args.closed.now.index.now) c.args.start (Held (members c.args.marks.now.words)) (Held xs) (Held ys) at c.onward-at.result c.onward-at.ensures
           (λ p h. subst (λ (bs : List Bool). Held bs p) (sym new) (set_held xs at p (fits w) h))
           (subst (λ (bs : List Bool). Held bs at) (sym new) (set_here xs at (fits w)))
           (λ p h. held_set xs at p (subst (λ (bs : List Bool). Held bs p) new h))
@@ -53,5 +53,5 @@ loop-marks-preserved c =
 
 pub returns : goal.returns
 returns c =
-    let fs = faces_of c.args.index.now in
-    going_done fs (consistent c.args.index.now) c.args.start (Held (members c.args.marks.now.words)) (Held (members c.loop-marks.marks.words)) c.loop-marks.at (sym c.has.ensures ∙ c.loop-marks-test.false) c.loop-marks.invariant.1
+    let fs = faces_of c.args.closed.now.index.now in
+    going_done fs (consistent c.args.closed.now.index.now) c.args.start (Held (members c.args.marks.now.words)) (Held (members c.loop-marks.marks.words)) c.loop-marks.at (sym c.has.ensures ∙ c.loop-marks-test.false) c.loop-marks.invariant.1

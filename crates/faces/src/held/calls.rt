@@ -6,15 +6,17 @@ ghost use Rattle.solid.specs.Places.{first_place, Home};
 use crate::held::Faces;
 use solid::Corner;
 use std::alloc::{AllocError, Global};
+use std::ops::Range;
+use table::NoRoom;
 
 impl Faces {
     // No faces, with room for that many faces and that many corners in all.
     pub fn new(heap: Global, faces: usize, corners: usize) -> Result<Faces, AllocError>
         ensures { IfOk result (λ f. (stored_rings f ≡ []) × (stored_corners f ≡ []) × Room f faces corners) }
     {
-        let all = Vec::with_capacity(heap, corners)?;
+        let corners = Vec::with_capacity(heap, corners)?;
         let ends = Vec::with_capacity(heap, faces)?;
-        Ok(Faces { corners: all, ends })
+        Ok(Faces { corners, ends })
     }
 
     // How many faces there are.
@@ -40,43 +42,34 @@ impl Faces {
     }
 
     // The places of a face: its first, and the one after its last.
-    pub fn span(&self, face: usize) -> (usize, usize)
+    pub fn span(&self, face: usize) -> Range<usize>
         requires { face < length (stored_rings self.now) }
-        ensures { (result.0 ≡ first_place (rings self.now) face) × (result.1 ≡ first_place (rings self.now) (suc face)) }
+        ensures start { result.start ≡ first_place (rings self.now) face }
+        ensures end { result.end ≡ first_place (rings self.now) (suc face) }
     {
-        let from = if face == 0 { 0 } else { self.ends[face - 1] };
-        (from, self.ends[face])
+        let start = if face == 0 { 0 } else { self.ends[face - 1] };
+        start..self.ends[face]
     }
 
-    // The face that has a place: halves what may have it.
+    // The face that has a place: the first that ends past it.
     pub fn home(&self, place: usize) -> usize
         requires { place < length (stored_corners self.now) }
         ensures { Home (rings self.now) place result }
     {
-        let mut low = 0;
-        let mut high = self.ends.len();
-        while low < high {
-            let mid = low + (high - low) / 2;
-            if self.ends[mid] <= place {
-                low = mid + 1;
-            } else {
-                high = mid;
-            }
-        }
-        low
+        self.ends.partition_point(|&end| end <= place)
     }
 
-    // The ring as the last face; or false, and all as before, where there is no room.
-    pub fn push(&mut self, ring: &[Corner]) -> bool
+    // The ring as the last face; or all as before, where there is no room.
+    pub fn push(&mut self, ring: &[Corner]) -> Result<(), NoRoom>
         ensures { Pushed self.old ring.now self.new result }
     {
         let end = self.corner_count() + ring.len();
         if self.len() == self.ends.capacity() || self.corners.capacity() < end {
-            return false;
+            return Err(NoRoom);
         }
         self.corners.extend_from_slice(ring).unwrap();
         self.ends.push_reserved(end);
-        true
+        Ok(())
     }
 
     // Empties the list and keeps its room.

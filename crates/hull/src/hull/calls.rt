@@ -1,16 +1,15 @@
 // Making, entering and clearing. No call asks anything of its caller, and none but `new` can lack memory.
-ghost use Rattle.algebra.specs.Vector.{vector};
 ghost use Rattle.hull.specs.Law.{CountsFromEvery, Law, Entered};
 ghost use Rattle.hull.specs.Meaning.{faces_of};
 ghost use Rattle.solid.specs.Corners.{ring_of};
 ghost use Rattle.solid.specs.Entering.{EnterSays};
-ghost use Rattle.solid.specs.Faces.{D as D-of};
 ghost use Rattle.solid.specs.Roll.{clear as clearing, Rolls};
 ghost use Rattle.std.specs.Prelude.{◌≡◌, [], ◌∷◌, ◌++◌, IfOk, Ok};
 
 use crate::hull::Hull;
 use fault::shape::ShapeFault;
 use index::index::Index;
+use ring::ring::Ring;
 use solid::Corner;
 use space::vector::{dot, plus, wide};
 use std::alloc::{AllocError, Global};
@@ -33,23 +32,22 @@ impl Hull {
     pub fn enter(&mut self, ring: &[Corner]) -> Result<(), ShapeFault>
         ensures { Entered (ring_of ring.now) self.old self.new result }
     {
-        let d = self.index.test(ring)?;
-        self.put(ring, d);
+        let tested = self.index.test(ring)?;
+        self.put(&tested);
         Ok(())
     }
 
-    // Puts in a ring that has passed the tests, with its D, and brings the counts up to date.
-    fn put(&mut self, ring: &[Corner], d: [i64; 3])
-        requires passed { EnterSays (faces_of self.old) (ring_of ring.now) (Ok tt) }
-        requires normal { vector d ≡ D-of (ring_of ring.now) }
-        ensures { faces_of self.new ≡ faces_of self.old ++ ring_of ring.now ∷ [] }
+    // Puts in a ring that has passed the tests, and brings the counts up to date.
+    fn put(&mut self, ring: &Ring<'_>)
+        requires { EnterSays (faces_of self.old) (ring_of ring.now.corners.now) (Ok tt) }
+        ensures { faces_of self.new ≡ faces_of self.old ++ ring_of ring.now.corners.now ∷ [] }
     {
-        let reverses = self.index.reverses(ring);
-        let height = dot(wide(ring[0].position), d);
+        let reverses = self.index.reverses(ring.corners);
+        let height = dot(wide(ring.corners[0].position), ring.normal);
         self.index.put(ring);
-        self.open_edges = self.open_edges + ring.len() - 2 * reverses;
-        self.volume += height;
-        let sum = plus(self.edge_sum, d);
+        self.open_edges = self.open_edges + ring.corners.len() - 2 * reverses;
+        self.volume += height as i64;
+        let sum = plus(self.edge_sum, ring.normal);
         self.edge_sum = sum;
     }
 

@@ -10,7 +10,7 @@ use crate::index::Index;
 use crate::index::growth::{add_corners, add_edges};
 use crate::index::limits::{EDGES, FACES, KEYS};
 use faces::held::Faces;
-use solid::Corner;
+use ring::ring::Ring;
 use std::alloc::{AllocError, Global};
 use table::Table;
 
@@ -32,14 +32,15 @@ impl Index {
     }
 
     // Puts in a ring that has passed the tests, as the last face.
-    pub fn put(&mut self, ring: &[Corner])
-        requires { EnterSays (faces_of self.old) (ring_of ring.now) (Ok tt) }
-        ensures { faces_of self.new ≡ faces_of self.old ++ ring_of ring.now ∷ [] }
+    pub fn put(&mut self, ring: &Ring<'_>)
+        requires { EnterSays (faces_of self.old) (ring_of ring.now.corners.now) (Ok tt) }
+        ensures { faces_of self.new ≡ faces_of self.old ++ ring_of ring.now.corners.now ∷ [] }
     {
         let first = self.faces.corner_count();
-        add_corners(&mut self.positions, &mut self.keys, ring);
+        add_corners(&mut self.positions, &mut self.keys, ring.corners);
         add_edges(&mut self.edges, first, ring);
-        let _ = self.faces.push(ring);
+        // Test 18 found room.
+        let _ = self.faces.push(ring.corners);
     }
 
     // Lets all faces go, and keeps the room.

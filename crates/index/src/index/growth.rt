@@ -1,17 +1,28 @@
 // What a face that has passed the tests adds to the tables.
-ghost use Rattle.std.specs.Prelude.{ℕ, ◌+◌, ◌≤◌, [], length};
+ghost use Rattle.std.specs.Prelude.{◌≤◌, [], ◌∷◌, length};
 ghost use Rattle.tracking.specs.Growth.{Grows, Reverses};
-ghost use Rattle.tracking.specs.Tables.{key_pairs, position_pairs, edge_pairs};
+ghost use Rattle.tracking.specs.Tables.{position_cmp, edge_cmp, key_pairs, position_pairs, edge_pairs};
 ghost use Rattle.index.specs.Meaning.{faces_of};
 ghost use Rattle.solid.specs.Corners.{ring_of};
 ghost use Rattle.solid.specs.Entering.{AllAllowed};
 ghost use Rattle.solid.specs.Faces.{edges as edges-of};
-ghost use Rattle.table.specs.Rank.{pair_rank, position_rank};
+ghost use Rattle.std.specs.Ordering.{nat_cmp};
 
 use crate::index::Index;
-use ring::following;
+use ring::edges::edges;
+use ring::ring::Ring;
 use solid::Corner;
 use table::Table;
+
+// Puts a corner's key and position into the tables.
+fn add_corner(positions: &mut Table<u32, [i32; 3]>, keys: &mut Table<[i32; 3], u32>, c: Corner)
+    ensures positions { Grows nat_cmp positions.old (key_pairs (c ∷ [])) positions.new }
+    ensures keys { Grows position_cmp keys.old (position_pairs (c ∷ [])) keys.new }
+{
+    // Test 18 found room.
+    let _ = positions.insert(c.key, c.position);
+    let _ = keys.insert(c.position, c.key);
+}
 
 // Puts the keys and positions of the ring's corners into the tables.
 pub(super) fn add_corners(
@@ -19,23 +30,21 @@ pub(super) fn add_corners(
     keys: &mut Table<[i32; 3], u32>,
     ring: &[Corner],
 )
-    ensures positions { Grows (λ n. n) positions.old (key_pairs ring.now) positions.new }
-    ensures keys { Grows position_rank keys.old (position_pairs ring.now) keys.new }
+    ensures positions { Grows nat_cmp positions.old (key_pairs ring.now) positions.new }
+    ensures keys { Grows position_cmp keys.old (position_pairs ring.now) keys.new }
 {
     for c in ring {
-        let _ = positions.insert(c.key, c.position);
-        let _ = keys.insert(c.position, c.key);
+        add_corner(positions, keys, *c);
     }
 }
 
 // Puts the ring's directed edges into the table, numbered from `first` on.
-pub(super) fn add_edges(edges: &mut Table<(u32, u32), usize>, first: usize, ring: &[Corner])
-    requires { (first ≤ 3072) × (length ring.now ≤ 64) }
-    ensures { Grows pair_rank edges.old (edge_pairs first (edges-of (ring_of ring.now))) edges.new }
+pub(super) fn add_edges(table: &mut Table<(u32, u32), usize>, first: usize, ring: &Ring<'_>)
+    requires { first ≤ 3072 }
+    ensures { Grows edge_cmp table.old (edge_pairs first (edges-of (ring_of ring.now.corners.now))) table.new }
 {
-    let k = ring.len();
-    for i in 0..k {
-        let _ = edges.insert((ring[i].key, ring[following(i, k)].key), first + i);
+    for (i, (a, b)) in edges(ring.corners).enumerate() {
+        let _ = table.insert((a.key, b.key), first + i);
     }
 }
 
@@ -45,17 +54,8 @@ impl Index {
         requires { AllAllowed (faces_of self.now) [] (ring_of ring.now) }
         ensures { Reverses (faces_of self.now) (ring_of ring.now) result }
     {
-        let k = ring.len();
-        let mut count = 0;
-        for i in 0..k {
-            if self
-                .edges
-                .find(&(ring[following(i, k)].key, ring[i].key))
-                .is_some()
-            {
-                count += 1;
-            }
-        }
-        count
+        edges(ring)
+            .filter(|(a, b)| self.edges.find(&(b.key, a.key)).is_some())
+            .count()
     }
 }

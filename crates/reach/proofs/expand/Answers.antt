@@ -1,49 +1,81 @@
-use Rattle.std.proofs.Common.{◌≡◌, ℕ, suc, ◌<◌, ◌≤◌, List, length, sym, ◌∙◌, subst, inl, inr, arith}
+use Rattle.std.proofs.Common.{◌≡◌, ℕ, suc, ◌<◌, length, sym, refl, ap, ◌∙◌, subst, inl, inr, arith}
+use Rattle.std.proofs.lemmas.Bool.{cases_lt}
+use Rattle.std.specs.declared.ops.Range.{Range}
 use Rattle.index.specs.Meaning.{faces_of}
+use Rattle.index.specs.Closed.{faces_in}
+use Rattle.index.specs.declared.index.Index.{Index}
 use Rattle.index.proofs.Meanings.{consistent}
 use Rattle.solid.specs.Places.{first_place, Home, Across}
-use Rattle.solid.specs.Faces.{Ring}
 use Rattle.solid.proofs.Places.{home_within}
 use Rattle.solid.proofs.Reaching.{across_one}
-use Rattle.std.proofs.lemmas.Bool.{cases_lt}
 use Rattle.reach.specs.Sets.{Has}
 use Rattle.reach.proofs.expand.Goals as goal
+use Rattle.reach.proofs.expand.Goals.{In-Some, After-across}
 
--- a place between the ends of a face is one of the face
-home : (fs : List Ring) (face place from to : ℕ) → face < length fs → (from ≡ first_place fs face) × (to ≡ first_place fs (suc face)) → from ≤ place → place < to → Home fs place face
-home fs face place from to l ends low high = record { face = l; from = omega (arith, ends.0); below = omega (arith, ends.1) }
+pub span-place-items-requires : goal.span-place-items-requires
+span-place-items-requires c = subst (λ (x : Index). c.args.face < length (faces_of x)) (sym c.index.ensures) c.requires
+
+pub loop-place-init : goal.loop-place-init
+loop-place-init c =
+    let face = c.args.face in
+    let items = c.into_iter-place-iterator.ensures.into_iter_gives in
+    let start = ap (λ (r : Range ℕ). r.start) items ∙ c.span-place-items.ensures.start ∙ ap (λ (x : Index). first_place (faces_of x) face) c.index.ensures in
+    let end = ap (λ (r : Range ℕ). r.end) items ∙ c.span-place-items.ensures.end ∙ ap (λ (x : Index). first_place (faces_of x) (suc face)) c.index.ensures in (
+      omega (arith, start),
+      end,
+      record { keeps = λ g h. h; stays = λ g w. w; met = λ g w. inl w; grows = omega arith; evenly = refl },
+      λ p g h l a. absurd (omega (arith, h.from, l, start)),
+      λ g h. inl h,
+    )
+
+-- the place is one of the face
+home : (c : In-Some) → Home (faces_in c.args.closed.now) c.in-Some.place c.args.face
+home c =
+    let steps = c.in-Some.ensures.steps in
+    let inv = c.loop-place.invariant in
+    record { face = c.requires; from = omega (arith, steps.1.1, inv.0); below = omega (arith, steps.1.0, steps.1.1, inv.1) }
 
 pub across-requires : goal.across-requires
-across-requires c =
-    let fs = faces_of c.args.index.now in
-    record { closed = c.requires.closed; within = home_within fs c.loop-place.place c.args.face (home fs c.args.face c.loop-place.place c.span-from.result.0 c.span-from.result.1 c.requires.within c.span-from.ensures c.loop-place.auto.place c.loop-place-test.true) }
+across-requires c = home_within (faces_in c.args.closed.now) c.in-Some.place c.args.face (home (goal.at.across-requires c).In-Some)
 
 pub add-requires : goal.add-requires
-add-requires c = omega (arith, c.across.ensures.face, (consistent c.args.index.now).limits.faces)
+add-requires c = omega (arith, c.across.ensures.face, (consistent c.args.closed.now.index.now).limits.faces)
 
 pub loop-place-preserved : goal.loop-place-preserved
 loop-place-preserved c =
-    let x = c.args.index.now in
-    let at = c.loop-place.place in
-    let g₀ = c.across.result in
+    let fs = faces_in c.args.closed.now in
+    let at = c.in-Some.place in
+    let steps = c.in-Some.ensures.steps in
+    let inv = c.loop-place.invariant in
     let added = c.add.ensures in
-    let inv = c.loop-place.invariant in (
-      λ g h. added.keeps g (inv.0 g h),
-      λ p g h l a. elim (cases_lt p at) [
-        | inl before ↦ added.keeps g (inv.1 p g h before a)
+    let here = home (goal.at.loop-place-preserved c).In-Some in
+    let old = inv.2 in (
+      omega (arith, inv.0, steps.1.2),
+      steps.0 ∙ inv.1,
+      record {
+        keeps = λ g h. added.longer.keeps g (old.keeps g h);
+        stays = λ g w. added.longer.stays g (old.stays g w);
+        met = λ g w. elim (added.longer.met g w) [
+          | inl a ↦ elim (old.met g a) [ inl b ↦ inl b | inr h ↦ inr (added.longer.keeps g h) ]
+          | inr h ↦ inr h
+        ];
+        grows = omega (arith, old.grows, added.longer.grows);
+        evenly = omega (arith, old.evenly, added.longer.evenly);
+      },
+      λ p g h l a. elim (cases_lt p c.loop-place.place-iterator.start) [
+        | inl before ↦ added.longer.keeps g (inv.3 p g h before a)
         | inr after ↦ (
-            let e : p ≡ at = omega arith in
-            subst (Has c.add.new.self) (across_one (faces_of x) (consistent x) at g₀ g c.across.ensures (subst (λ q. Across (faces_of x) q g) e a)) added.here
+            let e : p ≡ at = omega (arith, steps.1.1, steps.1.2) in
+            subst (Has c.add.new.self) (across_one fs (consistent c.args.closed.now.index.now) at c.across.result g c.across.ensures (subst (λ q. Across fs q g) e a)) added.here
             )
       ],
       λ g h. elim (added.only g h) [
-        | inl e ↦ inr (at, home (faces_of x) c.args.face at c.span-from.result.0 c.span-from.result.1 c.requires.within c.span-from.ensures c.loop-place.auto.place c.loop-place-test.true, subst (Across (faces_of x) at) (sym e) c.across.ensures)
-        | inr old ↦ inv.2 g old
+        | inl met ↦ elim (inv.4 g met) [ inl a ↦ inl a | inr b ↦ inr (added.longer.stays g b.0, b.1) ]
+        | inr new ↦ inr (new.0, (at, here, subst (Across fs at) (sym new.1) c.across.ensures))
       ],
-      record { grows = omega (arith, inv.3.grows, added.longer.grows); queue = λ k l. added.longer.queue k (omega (arith, inv.3.grows)) ∙ inv.3.queue k l },
     )
 
 pub returns : goal.returns
 returns c =
     let inv = c.loop-place.invariant in
-    record { keeps = inv.0; all = λ p g h a. inv.1 p g h (omega (arith, h.below, c.loop-place-test.false, c.span-from.ensures.1)) a; only = inv.2; longer = inv.3 }
+    record { longer = inv.2; all = λ p g h a. inv.3 p g h (omega (arith, h.below, inv.1, c.in-None.ensures.steps.1)) a; only = inv.4 }

@@ -1,54 +1,44 @@
 // The calls on a set of faces that are reached.
-ghost use Rattle.std.specs.Prelude.{◌≡◌, ℕ, ◌<◌, slice_index};
-ghost use Rattle.marks.specs.Bits.{members, ones_of};
-ghost use Rattle.reach.specs.Sets.{Has, Added};
+ghost use Rattle.std.specs.Prelude.{◌≡◌, ℕ, ◌<◌, [], ◌∷◌, ◌++◌, MatchOption};
+ghost use Rattle.reach.specs.Sets.{Has, size_of, Added, Taken};
 
 use crate::reached::Reached;
+use arrayvec::ArrayVec;
 use marks::Marks;
 
 impl Reached {
     // No face.
     pub(crate) fn none() -> Reached
         ensures empty { (g : ℕ) → Has result g → ⊥ }
-        ensures start { result.filled ≡ 0 }
+        ensures waiting { result.waiting.items ≡ [] }
     {
         Reached {
             marks: Marks::none(),
-            queue: [0; 512],
-            filled: 0,
+            waiting: ArrayVec::new(),
         }
     }
 
-    // One face more, at the end of the queue, unless it is there.
+    // One face more, which waits, unless it is there.
     pub(crate) fn add(&mut self, face: usize)
         requires { face < 512 }
         ensures { Added face self.old self.new }
     {
         if !self.marks.has(face) {
             self.marks.mark(face);
-            self.queue[self.filled] = face;
-            self.filled += 1;
+            self.waiting.push(face);
         }
     }
 
-    // How many faces are in the queue.
-    pub(crate) fn len(&self) -> usize
-        ensures { result ≡ self.now.filled }
+    // A face that waits, which then waits no more.
+    pub(crate) fn next(&mut self) -> Option<usize>
+        ensures { Taken self.old self.new result }
     {
-        self.filled
-    }
-
-    // The face at a place in the queue.
-    pub(crate) fn at(&self, place: usize) -> usize
-        requires { place < self.now.filled }
-        ensures { result ≡ slice_index self.now.queue place }
-    {
-        self.queue[place]
+        self.waiting.pop()
     }
 
     // How many faces are in the set: the ones in its words, counted.
     pub(crate) fn count(&self) -> usize
-        ensures { result ≡ ones_of (members self.now.marks.words) }
+        ensures { result ≡ size_of self.now }
     {
         self.marks.count()
     }

@@ -2,7 +2,6 @@
 ghost use Rattle.hull.specs.Certificates.{verdict_of};
 ghost use Rattle.hull.specs.Meaning.{faces_of};
 ghost use Rattle.hull.specs.Promise.{Promise};
-ghost use Rattle.hull.specs.Tests.{ClosedOr};
 ghost use Rattle.solid.specs.Certifying.{CertifySays};
 ghost use Rattle.solid.specs.Roll.{certify as certifying};
 
@@ -20,28 +19,15 @@ impl Hull {
         self.verdict()
     }
 
-    // Whether no edge is open. An open edge is looked for only where there is one.
-    fn test_closed(&self) -> Result<(), ShapeFault>
-        ensures { ClosedOr (faces_of self.now) result }
-    {
-        if self.open_edges == 0 {
-            return Ok(());
-        }
-        match self.index.open_edge() {
-            Some((from, to)) => Err(ShapeFault::OpenEdge { from, to }),
-            None => Ok(()),
-        }
-    }
-
     // The tests in order.
     fn verdict(&self) -> Result<Certificate, ShapeFault>
         ensures { CertifySays (faces_of self.now) (verdict_of result) }
     {
-        self.test_closed()?;
-        if let Some(key) = broken_key(&self.index) {
+        let closed = self.index.closed()?;
+        if let Some(key) = broken_key(&closed) {
             return Err(ShapeFault::KeyCycle { key });
         }
-        if !is_connected(&self.index) {
+        if !is_connected(&closed) {
             return Err(ShapeFault::Disconnected);
         }
         let volume = self.kept_volume();

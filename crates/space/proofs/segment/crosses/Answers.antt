@@ -9,19 +9,19 @@ use Rattle.algebra.specs.Segments.{Shared}
 use Rattle.algebra.proofs.Sizes.{cross_large}
 use Rattle.space.proofs.segment.crosses.Goals as goal
 
-pub dot_wide-requires : goal.dot_wide-requires
-dot_wide-requires c =
+pub dot-requires : goal.dot-requires
+dot-requires c =
     let n = cross_large c.cross-n.ensures c.requires.first c.requires.second in
     (n, n)
 
-pub dot_wide-requires-2 : goal.dot_wide-requires-2
-dot_wide-requires-2 c = (within_more tt c.requires.apart, cross_large c.cross-n.ensures c.requires.first c.requires.second)
+pub dot-requires-2 : goal.dot-requires-2
+dot-requires-2 c = (within_more tt c.requires.apart, cross_large c.cross-n.ensures c.requires.first c.requires.second)
 
-pub dot_wide-requires-3 : goal.dot_wide-requires-3
-dot_wide-requires-3 c = (cross_large c.cross-along_u.ensures c.requires.apart c.requires.second, cross_large c.cross-n.ensures c.requires.first c.requires.second)
+pub dot-requires-3 : goal.dot-requires-3
+dot-requires-3 c = (cross_large c.cross-along_u.ensures c.requires.apart c.requires.second, cross_large c.cross-n.ensures c.requires.first c.requires.second)
 
-pub dot_wide-requires-4 : goal.dot_wide-requires-4
-dot_wide-requires-4 c = (cross_large c.cross-along_v.ensures c.requires.apart c.requires.first, cross_large c.cross-n.ensures c.requires.first c.requires.second)
+pub dot-requires-4 : goal.dot-requires-4
+dot-requires-4 c = (cross_large c.cross-along_v.ensures c.requires.apart c.requires.first, cross_large c.cross-n.ensures c.requires.first c.requires.second)
 
 moved : {d d' h h' s s' t t' : ℤ} (r : Bool) → d ≡ d' → h ≡ h' → s ≡ s' → t ≡ t' → Decides r (Shared d h s t) → Decides r (Shared d' h' s' t')
 moved {d} {d'} {h} {h'} {s} {s'} {t} {t'} r dp hp sp tp x =
@@ -33,8 +33,8 @@ passed k h = to_z-of_z w128 k (record { sfits = h })
 
 pub returns : goal.returns
 returns c =
-    moved c.is_shared.result (passed c.dot_wide.result c.dot_wide.type_inv ∙ c.dot_wide.ensures ∙ ap₂ dot c.cross-n.ensures c.cross-n.ensures)
-    (passed c.dot_wide-2.result c.dot_wide-2.type_inv ∙ c.dot_wide-2.ensures ∙ ap (dot (vector c.args.w)) c.cross-n.ensures)
-    (passed c.dot_wide-3.result c.dot_wide-3.type_inv ∙ c.dot_wide-3.ensures ∙ ap₂ dot c.cross-along_u.ensures c.cross-n.ensures)
-    (passed c.dot_wide-4.result c.dot_wide-4.type_inv ∙ c.dot_wide-4.ensures ∙ ap₂ dot c.cross-along_v.ensures c.cross-n.ensures)
+    moved c.is_shared.result (passed c.dot.result c.dot.type_inv ∙ c.dot.ensures ∙ ap₂ dot c.cross-n.ensures c.cross-n.ensures)
+    (passed c.dot-2.result c.dot-2.type_inv ∙ c.dot-2.ensures ∙ ap (dot (vector c.args.w)) c.cross-n.ensures)
+    (passed c.dot-3.result c.dot-3.type_inv ∙ c.dot-3.ensures ∙ ap₂ dot c.cross-along_u.ensures c.cross-n.ensures)
+    (passed c.dot-4.result c.dot-4.type_inv ∙ c.dot-4.ensures ∙ ap₂ dot c.cross-along_v.ensures c.cross-n.ensures)
     c.is_shared.ensures

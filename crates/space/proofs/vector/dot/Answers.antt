@@ -1,25 +1,44 @@
--- Each step of the dot product fits 64 bits, by the bound that `Machine` computes from ±100000, and the last one is the answer.
-use Rattle.std.proofs.Common.{w64}
+-- Each step fits 128 bits, by the bound that `Machine` computes from ±2 · 10^13, and the last one is the answer.
+use Rattle.std.proofs.Common.{◌≡◌, ◌∙◌, rules, sym, subst, ap₂}
+use mir.Syntax.{w128}
+use Rattle.algebra.specs.Vector.{V3, vector, dot, Large}
 use Rattle.algebra.proofs.Bounds.{◌∷ᵛ◌}
 use Rattle.algebra.proofs.Machine.{done, fits, stored}
 use Rattle.algebra.proofs.Ring.{◌⊕◌, ◌⊗◌}
 use Rattle.algebra.proofs.Vectors.{𝐚, 𝐛, dotᴱ}
 use Rattle.space.proofs.vector.dot.Goals as goal
+use Rattle.space.proofs.vector.dot.Goals.{After-map-b}
+
+first : (c : After-map-b) → vector c.map-a.result ≡ vector c.args.a
+first c = search rules
+
+second : (c : After-map-b) → vector c.map-b.result ≡ vector c.args.b
+second c = search rules
+
+large : {u v : V3} → u ≡ v → Large v → Large u
+large e h = subst Large (sym e) h
 
 pub overflow_mul-result : goal.overflow_mul-result
-overflow_mul-result c = fits w64 (c.requires.0 ∷ᵛ c.requires.1 ∷ᵛ done) (𝐚.x ⊗ 𝐛.x) tt
+overflow_mul-result c =
+    let d = (goal.at.overflow_mul-result c).After-map-b in fits w128 (large (first d) c.requires.0 ∷ᵛ large (second d) c.requires.1 ∷ᵛ done) (𝐚.x ⊗ 𝐛.x) tt
 
 pub overflow_mul-result-2 : goal.overflow_mul-result-2
-overflow_mul-result-2 c = fits w64 (c.requires.0 ∷ᵛ c.requires.1 ∷ᵛ done) (𝐚.y ⊗ 𝐛.y) tt
+overflow_mul-result-2 c =
+    let d = (goal.at.overflow_mul-result-2 c).After-map-b in fits w128 (large (first d) c.requires.0 ∷ᵛ large (second d) c.requires.1 ∷ᵛ done) (𝐚.y ⊗ 𝐛.y) tt
 
 pub overflow_add-result : goal.overflow_add-result
-overflow_add-result c = fits w64 (c.requires.0 ∷ᵛ c.requires.1 ∷ᵛ done) (𝐚.x ⊗ 𝐛.x ⊕ 𝐚.y ⊗ 𝐛.y) tt
+overflow_add-result c =
+    let d = (goal.at.overflow_add-result c).After-map-b in fits w128 (large (first d) c.requires.0 ∷ᵛ large (second d) c.requires.1 ∷ᵛ done) (𝐚.x ⊗ 𝐛.x ⊕ 𝐚.y ⊗ 𝐛.y) tt
 
 pub overflow_mul-result-3 : goal.overflow_mul-result-3
-overflow_mul-result-3 c = fits w64 (c.requires.0 ∷ᵛ c.requires.1 ∷ᵛ done) (𝐚.z ⊗ 𝐛.z) tt
+overflow_mul-result-3 c =
+    let d = (goal.at.overflow_mul-result-3 c).After-map-b in fits w128 (large (first d) c.requires.0 ∷ᵛ large (second d) c.requires.1 ∷ᵛ done) (𝐚.z ⊗ 𝐛.z) tt
 
 pub overflow_add-result-2 : goal.overflow_add-result-2
-overflow_add-result-2 c = fits w64 (c.requires.0 ∷ᵛ c.requires.1 ∷ᵛ done) (dotᴱ 𝐚 𝐛) tt
+overflow_add-result-2 c =
+    let d = (goal.at.overflow_add-result-2 c).After-map-b in fits w128 (large (first d) c.requires.0 ∷ᵛ large (second d) c.requires.1 ∷ᵛ done) (dotᴱ 𝐚 𝐛) tt
 
 pub returns : goal.returns
-returns c = stored w64 (c.requires.0 ∷ᵛ c.requires.1 ∷ᵛ done) (dotᴱ 𝐚 𝐛) tt
+returns c =
+    let d = (goal.at.returns c).After-map-b in
+    stored w128 (large (first d) c.requires.0 ∷ᵛ large (second d) c.requires.1 ∷ᵛ done) (dotᴱ 𝐚 𝐛) tt ∙ ap₂ dot (first d) (second d)

@@ -1,37 +1,28 @@
--- What is left to look at lies between the ends that are at most the place and those past it.
-use Rattle.std.proofs.Common.{◌+◌, ◌-◌, ◌/◌, ◌<◌, vec_items, vec_len, arith}
-use Rattle.std.proofs.lemmas.List.{get_or_read}
+-- The ends rise, so those that are at most the place come first.
+use Rattle.std.proofs.Common.{◌≡◌, ℕ, ◌<◌, List, length, get_or, leb, vec_items, subst, sym, ap, rules, arith}
+use Rattle.std.specs.List.Sorted.{IsPartitionedBy}
+use Rattle.std.proofs.lemmas.Bool.Decides.{nat_tests}
+use Rattle.std.proofs.lemmas.Fn.{always_returns_same}
+use Rattle.std.proofs.lemmas.List.{get_or_default}
+use Rattle.faces.specs.declared.held.Faces.{Faces}
 use Rattle.faces.proofs.Places.{place_rise, home_found}
 use Rattle.faces.proofs.held.Faces.home.Goals as goal
 
-pub loop-low-init : goal.loop-low-init
-loop-low-init c = (omega arith, omega (arith, c.len-high.ensures), λ k l. absurd (omega arith), λ k l m. absurd (omega (arith, c.len-high.ensures)))
+at_zero : (xs : List ℕ) (i d : ℕ) → i < length xs → get_or xs i d ≡ get_or xs i 0
+at_zero xs i d within = get_or_default xs i d 0 within
 
-pub loop-low-preserved-then-index-place : goal.loop-low-preserved-then-index-place
-loop-low-preserved-then-index-place c =
-    let f = c.args.self.now in
-    let mid = c.loop-low.low + (c.loop-low.high - c.loop-low.low) / 2 in
-    let within : mid < vec_len f.ends = omega (arith, c.loop-low.invariant.1, c.loop-low-test.true) in
-    let read = get_or_read (vec_items f.ends) mid c.index.result.now (omega (arith, f.ends.ok.0)) c.index.ensures 0 in (
-      omega (arith, c.loop-low-test.true),
-      c.loop-low.invariant.1,
-      λ k l. omega (arith, place_rise f k mid (omega arith) within, c.if-index-place.true, read),
-      c.loop-low.invariant.3,
-    )
-
-pub loop-low-preserved : goal.loop-low-preserved
-loop-low-preserved c =
-    let f = c.args.self.now in
-    let mid = c.loop-low.low + (c.loop-low.high - c.loop-low.low) / 2 in
-    let within : mid < vec_len f.ends = omega (arith, c.loop-low.invariant.1, c.loop-low-test.true) in
-    let read = get_or_read (vec_items f.ends) mid c.index.result.now (omega (arith, f.ends.ok.0)) c.index.ensures 0 in (
-      omega (arith, c.loop-low-test.true),
-      omega (arith, c.loop-low.invariant.1, c.loop-low-test.true),
-      c.loop-low.invariant.2,
-      λ k l m. omega (arith, place_rise f mid k l m, c.if-index-place.false, read),
-    )
+parted : (f : Faces) (p : ℕ) → IsPartitionedBy (λ e. leb e p) (vec_items f.ends)
+parted f p i j d le within at_most =
+    let rise = place_rise f i j le (omega (arith, within, f.ends.ok.0)) in
+    grind (arith, nat_tests, rise, at_zero (vec_items f.ends) i d (omega (arith, le, within)), at_zero (vec_items f.ends) j d within)
 
 pub returns : goal.returns
 returns c =
-    home_found c.args.self.now c.args.place c.loop-low.low c.requires (omega (arith, c.loop-low.invariant.0, c.loop-low.invariant.1)) c.loop-low.invariant.2
-    (λ k l m. c.loop-low.invariant.3 k (omega (arith, c.loop-low-test.false, c.loop-low.invariant.0)) m)
+    let f = c.args.self.now in
+    let found = c.partition_point.ensures in
+    let same = c.deref.ensures.value in
+    let split = found.partitioned (λ e. leb e c.args.place) (always_returns_same _ _ _ (λ a r g called. search rules)) (subst (IsPartitionedBy (λ e. leb e c.args.place)) (sym same) (parted f c.args.place)) in
+    home_found f c.args.place _ c.requires
+    (omega (arith, found.bound, ap length same, f.ends.ok.0))
+    (λ k before. grind (arith, nat_tests, split.0 k 0 (omega arith) before, same))
+    (λ k after within. grind (arith, nat_tests, split.1 k 0 after (omega (arith, within, ap length same, f.ends.ok.0)), same))

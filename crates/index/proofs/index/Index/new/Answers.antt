@@ -7,7 +7,7 @@ invariant_of-result c =
     let p = c.in_ok-positions.ensures in
     let k = c.in_ok-keys.ensures in
     let e = c.in_ok-edges.ensures in record {
-      kept = ∣ empty_kept _ _ _ _ f.0 f.1 f.2 (record { holds = p.0; size = p.1; space = p.2 }) (record { holds = k.0; size = k.1; space = k.2 }) (record { holds = e.0; size = e.1; space = e.2 }) ∣₁;
+      kept = ∣ empty_kept _ _ _ _ f.0 f.1 f.2 (record { nothing = p.0; space = p.1 }) (record { nothing = k.0; space = k.1 }) (record { nothing = e.0; space = e.1 }) ∣₁;
     }
 
 pub returns : goal.returns

@@ -1,40 +1,49 @@
-use Rattle.std.proofs.Common.{◌≡◌, ℕ, suc, ◌+◌, ◌<◌, cond, not, eqb, List, ◌++◌, map, length, take, is_some, sym, ap, ◌∙◌, arith}
+-- The keys that the table has not are counted.
+use Rattle.std.proofs.Common.{◌≡◌, ℕ, suc, ◌+◌, Bool, true, false, cond, not, eqb, List, [], ◌∷◌, ◌++◌, map, filter, length, take, is_some, sym, refl, ap, ◌∙◌, rules, arith}
 use Rattle.std.proofs.lemmas.List.{take_all, length-map}
-use Rattle.faces.specs.Held.{stored_corners}
+use Rattle.std.proofs.lemmas.List.Sums.{length-filter, count_by-le-length}
+use Rattle.std.specs.List.{count_by}
+use Rattle.std.specs.Cmp.{nat_cmp_total}
+use Rattle.std.specs.FinMap.{get}
+use Rattle.std.specs.Ordering.{nat_cmp}
 use Rattle.solid.specs.Corners.{corner_of, ring_of}
 use Rattle.solid.specs.Faces.{Corner}
 use Rattle.solid.specs.Lists.{has, kinds}
 use Rattle.solid.specs.Rules.{corners}
-use Rattle.tracking.specs.Tables.{key_pairs}
+use Rattle.solid.specs.declared.Corner.{Corner as StoredCorner}
+use Rattle.table.specs.Seen.{map_of}
 use Rattle.index.specs.Meaning.{faces_of}
-use Rattle.tracking.proofs.Keys.{found_key, kinds_more, key_count_more, keys_length, key_at_lem}
+use Rattle.tracking.proofs.Edges.{kept_alike}
+use Rattle.tracking.proofs.Keys.{found_key, kinds_all, key_count_more}
+use Rattle.tracking.proofs.Pairs.{tracked}
 use Rattle.tracking.proofs.Props.{kept_out}
 use Rattle.index.proofs.index.Index.new_keys.Goals as goal
-use Rattle.index.proofs.index.Index.new_keys.Goals.{then-is_none, else-is_none}
 
-pub loop-c-preserved : goal.loop-c-preserved
-loop-c-preserved c =
-    let h = c.args.self.now in
-    let r = c.args.ring.now in
-    let i = c.loop-c.c-index in
-    let ks : List ℕ = map (λ (c : Corner). c.key) (corners (faces_of h)) in
-    let ns : List ℕ = map (λ (c : Corner). c.key) (ring_of r) in
-    let l : i < length ns = omega (arith, keys_length r) in
-    let old : ℕ = kinds eqb (ks ++ take i ns) in
-    let there : has eqb _ ks ≡ not c.is_none.result = sym (found_key h.faces _) ∙ sym (ap is_some (c.find.ensures (key_pairs (stored_corners h.faces)) (kept_out h.kept).positions_held.0)) ∙ c.is_none.ensures in
-    let more : kinds eqb (ks ++ take (i + 1) ns) ≡ cond (not c.is_none.result) old (suc old) =
-    kinds_more ks ns c.requires.keys i l ∙ ap (λ k. cond (has eqb k ks) old (suc old)) (key_at_lem r i c.loop-c-test.true) ∙ ap (λ b. cond b old (suc old)) there in
-    elim c.if-is_none.branch [
-      | then-is_none w ↦ (let e = more ∙ ap (λ b. cond (not b) old (suc old)) w.if-is_none.true in (omega (arith, e, w.count-is, c.loop-c.invariant.0), omega (arith, w.count-is, c.loop-c.invariant.1)))
-      | else-is_none w ↦ (let e = more ∙ ap (λ b. cond (not b) old (suc old)) w.if-is_none.false in (omega (arith, e, w.count-is, c.loop-c.invariant.0), omega (arith, w.count-is, c.loop-c.invariant.1)))
-    ]
+-- a test of keys keeps as many keys as corners
+by_keys : (p : ℕ → Bool) (r : List StoredCorner) → length (filter (λ (s : StoredCorner). p s.key) r) ≡ length (filter p (map (λ (c : Corner). c.key) (ring_of r)))
+by_keys p [] = refl
+by_keys p (s ∷ r) = step (p s.key) (filter (λ (t : StoredCorner). p t.key) r) (filter p (map (λ (c : Corner). c.key) (ring_of r))) (by_keys p r)
+  where
+    step : (b : Bool) (xs : List StoredCorner) (ys : List ℕ) → length xs ≡ length ys → length (cond b (s ∷ xs) xs) ≡ length (cond b (s.key ∷ ys) ys)
+    step true xs ys e = ap suc e
+    step false xs ys e = e
 
 pub returns : goal.returns
 returns c =
-    let h = c.args.self.now in
-    let r = c.args.ring.now in
+    let x = c.args.self.now in
+    let r = c.args.ring.now.corners.now in
+    let tidy = c.args.ring.now.tidy in
+    let ks : List ℕ = map (λ (c : Corner). c.key) (corners (faces_of x)) in
     let ns : List ℕ = map (λ (c : Corner). c.key) (ring_of r) in
-    let all = take_all c.loop-c.c-index ns (omega (arith, keys_length r)) in (
-      key_count_more (faces_of h) (ring_of r) ∙ sym (ap (λ t. kinds eqb (map (λ (c : Corner). c.key) (corners (faces_of h)) ++ t)) all) ∙ c.loop-c.invariant.0,
-      omega (arith, c.loop-c.invariant.1, c.requires.sized.1, length-map r corner_of),
+    let found : StoredCorner → Bool = λ s. not (is_some (get (map_of nat_cmp x.positions) s.key)) in
+    let counted : c.count.result ≡ count_by found r = search rules in
+    let same = kept_alike found (λ s. not (has eqb s.key ks)) r (λ s i. ap (λ o. not (is_some o)) (tracked nat_cmp_total x.positions _ (kept_out x.kept).positions_held s.key) ∙ ap not (found_key x.faces s.key)) in
+    let new = counted ∙ sym (length-filter found r) ∙ same ∙ by_keys (λ n. not (has eqb n ks)) r in
+    let all : take (length ns) ns ≡ ns = take_all (length ns) ns (omega arith) in (
+      key_count_more (faces_of x) (ring_of r)
+          ∙ sym (ap (λ t. kinds eqb (ks ++ t)) all)
+          ∙ kinds_all ks ns tidy.keys (length ns) (omega arith)
+          ∙ ap (λ t. kinds eqb ks + length (filter (λ n. not (has eqb n ks)) t)) all
+          ∙ ap (λ n. kinds eqb ks + n) (sym new),
+      omega (arith, counted, count_by-le-length found r, tidy.sized.1, length-map r corner_of),
     )

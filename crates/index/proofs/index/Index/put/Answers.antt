@@ -1,7 +1,6 @@
 -- The tables with the face are kept in step.
 use Rattle.std.proofs.Common.{sym, arith}
-use Rattle.std.proofs.lemmas.List.{length-map}
-use Rattle.solid.specs.Corners.{corner_of, ring_of}
+use Rattle.solid.specs.Corners.{ring_of}
 use Rattle.solid.specs.Rules.{Enterable}
 use Rattle.solid.proofs.Answered.{enter_taken}
 use Rattle.index.specs.Meaning.{faces_of}
@@ -11,25 +10,23 @@ use Rattle.tracking.proofs.Props.{kept_out}
 use Rattle.index.proofs.index.Index.put.Goals as goal
 use Rattle.index.proofs.index.Index.put.Goals.{Start}
 
-may : (c : Start) → Enterable (faces_of c.args.self.now) (ring_of c.args.ring.now)
-may c = enter_taken (faces_of c.args.self.now) (ring_of c.args.ring.now) c.requires
+may : (c : Start) → Enterable (faces_of c.args.self.now) (ring_of c.args.ring.now.corners.now)
+may c = enter_taken (faces_of c.args.self.now) (ring_of c.args.ring.now.corners.now) c.requires
 
 pub add_edges-requires : goal.add_edges-requires
 add_edges-requires c =
-    let x = c.args.self.now in (
-      omega (arith, c.corner_count-first.ensures, edge_total x.faces, (kept_out x.kept).consistent.limits.edges),
-      omega (arith, (may (goal.at.add_edges-requires c).Start).proper.tidy.sized.1, length-map c.args.ring.now corner_of),
-    )
+    let x = c.args.self.now in
+    omega (arith, c.corner_count-first.ensures, edge_total x.faces, (kept_out x.kept).consistent.limits.edges)
 
 pub invariant_of-self : goal.invariant_of-self
 invariant_of-self c =
     let x = c.args.self.now in record {
-      kept = ∣ grown x.faces c.push.new.self c.args.ring.now x.positions c.add_corners.new.positions x.keys c.add_corners.new.keys x.edges c.add_edges.new.edges c.push.result
+      kept = ∣ grown x.faces c.push.new.self c.args.ring.now.corners.now x.positions c.add_corners.new.positions x.keys c.add_corners.new.keys x.edges c.add_edges.new.table c.push.result
           (kept_out x.kept) (may (goal.at.invariant_of-self c).Start) c.push.ensures c.add_corners.ensures.positions c.add_corners.ensures.keys (rw (sym c.corner_count-first.ensures) c.add_edges.ensures) ∣₁;
     }
 
 pub returns : goal.returns
 returns c =
     let x = c.args.self.now in
-    rings_grown x.faces c.push.new.self c.args.ring.now x.positions c.add_corners.new.positions x.keys c.add_corners.new.keys x.edges c.add_edges.new.edges c.push.result
+    rings_grown x.faces c.push.new.self c.args.ring.now.corners.now x.positions c.add_corners.new.positions x.keys c.add_corners.new.keys x.edges c.add_edges.new.table c.push.result
     (kept_out x.kept) (may (goal.at.returns c).Start) c.push.ensures

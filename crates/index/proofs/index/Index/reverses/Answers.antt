@@ -1,47 +1,32 @@
-use Rattle.std.proofs.Common.{◌≡◌, ◌+◌, ◌<◌, Bool, cond, List, [], ◌∷◌, length, get_or, take, is_some, filter, sym, ap, ◌∙◌, arith, length-append}
-use Rattle.std.proofs.lemmas.List.{take_more, take_all}
+use Rattle.std.proofs.Common.{◌<◌, ◌^◌, Bool, length, is_some, ap, ◌∙◌, inl, rules, arith}
+use borrow.Author.Tests.{tests}
+use Rattle.std.specs.FinMap.{get}
+use Rattle.std.proofs.lemmas.Iterator.Consumers.{YieldsList-from_filter, YieldsList-at, count_from_yields_List}
 use Rattle.solid.specs.Corners.{ring_of}
 use Rattle.solid.specs.Faces.{Edge, flip, edges, all_edges, same_edge}
 use Rattle.solid.specs.Lists.{has}
-use Rattle.solid.proofs.Opens.{kept_append}
-use Rattle.ring.specs.Places.{corner, edge}
-use Rattle.ring.proofs.Places.{edges_at, edges_length, edge_in, no_edge}
-use Rattle.table.specs.Map.{lookup}
-use Rattle.table.specs.Rank.{pair_rank}
-use Rattle.tracking.specs.Tables.{edge_pairs}
+use Rattle.ring.proofs.Places.{edges_length}
+use Rattle.ring.proofs.Turns.{road}
 use Rattle.index.specs.Meaning.{faces_of}
-use Rattle.tracking.proofs.Edges.{found_reverse}
+use Rattle.table.specs.Seen.{map_of}
+use Rattle.tracking.specs.Tables.{edge_cmp, end_keys}
+use Rattle.tracking.proofs.Edges.{found_reverse, kept_alike}
+use Rattle.tracking.proofs.Orders.{edge_cmp_total}
+use Rattle.tracking.proofs.Pairs.{tracked}
 use Rattle.tracking.proofs.Props.{kept_out}
 use Rattle.index.proofs.index.Index.reverses.Goals as goal
-use Rattle.index.proofs.index.Index.reverses.Goals.{then-is_some, else-is_some}
 
-pub loop-i-preserved : goal.loop-i-preserved
-loop-i-preserved c =
-    let h = c.args.self.now in
-    let r = c.args.ring.now in
-    let i = c.loop-i.i in
-    let k = kept_out h.kept in
-    let es : List Edge = edges (ring_of r) in
-    let l : i < length es = omega (arith, edges_length r) in
-    let test : Edge → Bool = λ e. has same_edge (flip e) (all_edges (faces_of h)) in
-    let here : test (get_or es i no_edge) ≡ c.is_some.result =
-    ap test (edges_at r no_edge i c.loop-i-test.true)
-    ∙ sym (found_reverse (faces_of h) k.consistent (ring_of r) c.requires (edge r i) (edge_in r i c.loop-i-test.true))
-    ∙ ap (λ n. is_some (lookup (edge_pairs 0 (all_edges (faces_of h))) (pair_rank ((corner r n).key, (corner r i).key)))) (sym c.following.ensures.is)
-    ∙ ap is_some (sym (c.find.ensures (edge_pairs 0 (all_edges (faces_of h))) k.edges_held.0))
-    ∙ sym c.is_some.ensures in
-    let more : length (filter test (take (i + 1) es)) ≡ length (filter test (take i es)) + length (cond c.is_some.result (get_or es i no_edge ∷ []) []) =
-    ap (λ t. length (filter test t)) (take_more es i no_edge l)
-    ∙ ap length (kept_append test (take i es) (get_or es i no_edge ∷ []))
-    ∙ length-append (filter test (take i es)) (cond (test (get_or es i no_edge)) (get_or es i no_edge ∷ []) [])
-    ∙ ap (λ b. length (filter test (take i es)) + length (cond b (get_or es i no_edge ∷ []) [])) here in
-    elim c.if-is_some.branch [
-      | then-is_some w ↦ (let e = more ∙ ap (λ b. length (filter test (take i es)) + length (cond b (get_or es i no_edge ∷ []) [])) w.if-is_some.true in (omega (arith, e, w.count-is, c.loop-i.invariant.0), omega (arith, w.count-is, c.loop-i.invariant.1)))
-      | else-is_some w ↦ (let e = more ∙ ap (λ b. length (filter test (take i es)) + length (cond b (get_or es i no_edge ∷ []) [])) w.if-is_some.false in (omega (arith, e, w.count-is, c.loop-i.invariant.0), omega (arith, w.count-is, c.loop-i.invariant.1)))
-    ]
+pub count-requires-clause-fits : goal.count-requires-clause-fits
+count-requires-clause-fits c =
+    let h : length c.args.ring.now < 2 ^ 64 = c.well_formed.1.0.0 in
+    inl (omega (arith, h, edges_length c.args.ring.now, ap length c.filter.ensures.source, ap length c.edges.ensures))
 
 pub returns : goal.returns
 returns c =
-    let h = c.args.self.now in
-    let r = c.args.ring.now in
-    c.loop-i.invariant.0 ∙ ap (λ t. length (filter (λ e. has same_edge (flip e) (all_edges (faces_of h))) t)) (take_all c.loop-i.i (edges (ring_of r)) (omega (arith, edges_length r)))
+    let x = c.args.self.now in
+    let fs = faces_of x in
+    let es = edges (ring_of c.args.ring.now) in
+    let kept = (kept_out x.kept).edges_held in
+    let found : Edge → Bool = λ e. is_some (get (map_of edge_cmp x.edges) (end_keys (flip e))) in
+    count_from_yields_List c.filter.result c.count.result c.count.ensures.ran (YieldsList-from_filter _ found (YieldsList-at c.filter.ensures.source (road c.args.ring.now c.edges.ensures)) c.filter.ensures.closure (λ y r q k. search (rules, tests)))
+    ∙ kept_alike found (λ e. has same_edge (flip e) (all_edges fs)) es (λ e i. ap is_some (tracked edge_cmp_total x.edges _ kept (end_keys (flip e))) ∙ found_reverse fs (ring_of c.args.ring.now) c.requires e i)

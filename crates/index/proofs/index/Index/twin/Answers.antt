@@ -1,9 +1,10 @@
 use Rattle.std.proofs.Common.{sym, ap, ◌∙◌, ap₂, arith}
 use Rattle.solid.specs.Faces.{Corner, all_edges}
-use Rattle.table.specs.Map.{lookup}
-use Rattle.table.specs.Rank.{pair_rank}
-use Rattle.tracking.specs.Tables.{edge_pairs}
+use Rattle.std.specs.FinMap.{find}
+use Rattle.tracking.specs.Tables.{edge_cmp, edge_pairs}
 use Rattle.tracking.proofs.Keys.{edge_total}
+use Rattle.tracking.proofs.Orders.{edge_cmp_total}
+use Rattle.tracking.proofs.Pairs.{tracked}
 use Rattle.tracking.proofs.Places.{start_held, twin_by}
 use Rattle.tracking.proofs.Props.{kept_out}
 use Rattle.index.specs.Meaning.{faces_of}
@@ -23,4 +24,4 @@ returns c =
     let from = c.key-from.ensures ∙ sym (ap (λ (d : Corner). d.key) (start_held x.faces p (omega (arith, c.requires, edge_total x.faces)))) in
     let to = c.key-to.ensures ∙ sym (ap (λ (d : Corner). d.key) (start_held x.faces c.next.result (omega (arith, c.next.ensures.within, edge_total x.faces)))) ∙ ap (λ (d : Corner). d.key) c.next.ensures.joined in
     twin_by (faces_of x) k.consistent p c.requires c.find.result
-    (c.find.ensures (edge_pairs 0 (all_edges (faces_of x))) k.edges_held.0 ∙ ap₂ (λ a b. lookup (edge_pairs 0 (all_edges (faces_of x))) (pair_rank (a, b))) to from)
+    (c.find.ensures ∙ tracked edge_cmp_total x.edges _ k.edges_held _ ∙ ap₂ (λ a b. find edge_cmp (a, b) (edge_pairs 0 (all_edges (faces_of x)))) to from)

@@ -1,10 +1,9 @@
-use Rattle.std.proofs.Common.{take}
+use Rattle.std.proofs.Common.{length, take}
 use Rattle.solid.specs.Corners.{ring_of}
 use Rattle.solid.specs.Faces.{edges}
-use Rattle.table.specs.Rank.{pair_rank}
 use Rattle.tracking.specs.Growth.{Grows}
-use Rattle.tracking.specs.Tables.{edge_pairs}
+use Rattle.tracking.specs.Tables.{edge_cmp, edge_pairs}
 use Rattle.index.proofs.index.growth.add_edges.Given as goal
 
 abbrev pub invariant-loop-i : goal.invariant-loop-i
-invariant-loop-i l = Grows pair_rank l.initial.edges (edge_pairs l.first (take l.i (edges (ring_of l.ring)))) l.edges
+invariant-loop-i l = Grows edge_cmp l.initial.table (edge_pairs l.first (take (length l.yielded) (edges (ring_of l.ring.corners.now)))) l.table

@@ -1,52 +1,55 @@
-use Rattle.std.proofs.Common.{◌<◌, Bool, false, List, length, get_or, sym, refl, ap, ◌∙◌, subst, inr, arith, length-set, get_or-set_other}
+use Rattle.std.proofs.Common.{◌≡◌, ℕ, ◌+◌, ◌*◌, ◌<◌, Bool, List, [], ◌∷◌, length, sym, refl, ap, ◌∙◌, subst, inl, inr, arith, lit<}
 use Rattle.marks.specs.Bits.{members, ones_of, Held}
-use Rattle.marks.proofs.Sets.{held_set, set_held, set_here, ones_set}
-use Rattle.reach.proofs.Queues.{same_more, bits_long, filled_room}
+use Rattle.marks.proofs.Sets.{held_set, set_held, set_here, ones_length, ones_set}
+use Rattle.marks.proofs.Words.{length_members}
+use Rattle.solid.specs.Lists.{In}
+use Rattle.solid.proofs.Members.{in_append, in_left, in_right}
+use Rattle.reach.specs.declared.reached.Reached.{Reached}
 use Rattle.reach.proofs.reached.Reached.add.Goals as goal
-use Rattle.reach.proofs.reached.Reached.add.Goals.{Then-not-has}
+use Rattle.reach.proofs.reached.Reached.add.Goals.{After-mark}
 
-room : (c : Then-not-has) → c.args.self.now.filled < 512
-room c = filled_room c.args.self.now c.args.face c.requires (sym c.has.ensures ∙ c.if-not-has.true)
+bits_long : (r : Reached) → length (members r.marks.words) ≡ 512
+bits_long r = length_members r.marks.words ∙ ap (λ n. 64 * n) r.marks.long
 
-pub offset_bounds-self-self : goal.offset_bounds-self-self
-offset_bounds-self-self c = omega (arith, room (goal.at.offset_bounds-self-self c).Then-not-has)
+within : (r : Reached) (face : ℕ) → face < 512 → face < length (members r.marks.words)
+within r face l = omega (arith, l, bits_long r)
 
-pub bounds-self-self : goal.bounds-self-self
-bounds-self-self c = room (goal.at.bounds-self-self c).Then-not-has
+one_more : (c : After-mark) → ones_of (members c.mark.new.self.words) ≡ ones_of (members c.args.self.now.marks.words) + 1
+one_more c = ap ones_of c.mark.ensures ∙ ones_set (members c.args.self.now.marks.words) c.args.face (within c.args.self.now c.args.face c.requires) (sym c.has.ensures ∙ c.if-not-has.true)
 
-pub overflow_add-self : goal.overflow_add-self
-overflow_add-self c = omega (arith, room (goal.at.overflow_add-self c).Then-not-has)
-
-within : (c : Then-not-has) → c.args.face < length (members c.args.self.now.marks.words)
-within c = omega (arith, c.requires, bits_long c.args.self.now)
+pub push-requires : goal.push-requires
+push-requires c =
+    let most = ones_length (members c.mark.new.self.words) in
+    let long = length_members c.mark.new.self.words ∙ ap (λ n. 64 * n) c.mark.new.self.long in
+    (lit< tt, omega (arith, c.args.self.now.few, one_more (goal.at.push-requires c).After-mark, most, long))
 
 pub invariant_of-self : goal.invariant_of-self
-invariant_of-self c =
-    let r = c.args.self.now in
-    let w = (goal.at.invariant_of-self c).Then-not-has in
-    let xs = members r.marks.words in
-    let out = sym c.has.ensures ∙ c.if-not-has.true in record {
-      long = length-set r.queue r.filled c.args.face ∙ r.long;
-      many = omega (arith, r.many, ap ones_of c.mark.ensures, ones_set xs c.args.face (within w) out);
-      same = λ g. ap (λ (bs : List Bool). get_or bs g false) c.mark.ensures ∙ same_more xs r.queue r.filled c.args.face (omega (arith, room w, r.long)) (within w) r.same g;
-    }
+invariant_of-self c = record { few = omega (arith, c.args.self.now.few, one_more (goal.at.invariant_of-self c).After-mark, c.push.ensures.len) }
 
 pub returns-then-not-has : goal.returns-then-not-has
 returns-then-not-has c =
     let r = c.args.self.now in
-    let w = (goal.at.returns-then-not-has c).Then-not-has in
+    let face = c.args.face in
     let xs = members r.marks.words in
-    let new = c.mark.ensures in record {
-      keeps = λ g h. subst (λ (bs : List Bool). Held bs g) (sym new) (set_held xs c.args.face g (within w) h);
-      here = subst (λ (bs : List Bool). Held bs c.args.face) (sym new) (set_here xs c.args.face (within w));
-      only = λ g h. held_set xs c.args.face g (subst (λ (bs : List Bool). Held bs g) new h);
-      longer = record { grows = omega arith; queue = λ k l. get_or-set_other r.queue r.filled k c.args.face 0 (λ e. omega arith) };
+    let new = c.mark.ensures in
+    let here : Held (members c.mark.new.self.words) face = subst (λ (bs : List Bool). Held bs face) (sym new) (set_here xs face (within r face c.requires)) in
+    let queue = c.push.ensures.items in
+    let more = one_more (goal.at.returns-then-not-has c).After-mark in
+    let waits : In face c.push.new.self.items = subst (In face) (sym queue) (in_right face r.waiting.items (face ∷ []) (inl refl)) in
+    record {
+      longer = record {
+        keeps = λ g h. subst (λ (bs : List Bool). Held bs g) (sym new) (set_held xs face g (within r face c.requires) h);
+        stays = λ g w. subst (In g) (sym queue) (in_left g r.waiting.items (face ∷ []) w);
+        met = λ g w. elim (in_append g r.waiting.items (face ∷ []) (subst (In g) queue w)) [
+          | inl old ↦ inl old
+          | inr new ↦ inr (elim new [ inl e ↦ subst (Held (members c.mark.new.self.words)) (sym e) here | inr none ↦ absurd none ])
+        ];
+        grows = omega (arith, more);
+        evenly = omega (arith, more, c.push.ensures.len);
+      };
+      here = here;
+      only = λ g h. elim (held_set xs face g (subst (λ (bs : List Bool). Held bs g) new h)) [
+        | inl e ↦ inr (subst (λ n. In n c.push.new.self.items) (sym e) waits, e)
+        | inr old ↦ inl old
+      ];
     }
-
-pub returns-else-not-has : goal.returns-else-not-has
-returns-else-not-has c = record {
-  keeps = λ g h. h;
-  here = sym c.has.ensures ∙ c.if-not-has.false;
-  only = λ g h. inr h;
-  longer = record { grows = omega arith; queue = λ k l. refl };
-}

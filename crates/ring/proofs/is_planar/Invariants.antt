@@ -1,9 +1,0 @@
-use Rattle.std.proofs.Common.{◌≡◌, ℕ, ◌<◌, pos}
-use Rattle.algebra.specs.Vector.{◌-ᵛ◌, dot}
-use Rattle.solid.specs.Corners.{ring_of}
-use Rattle.solid.specs.Faces.{start, D}
-use Rattle.ring.specs.Places.{corner}
-use Rattle.ring.proofs.is_planar.Given as goal
-
-abbrev pub invariant-loop-corner : goal.invariant-loop-corner
-invariant-loop-corner l = (i : ℕ) → i < l.corner-index → dot ((corner l.ring i).position -ᵛ start (ring_of l.ring)) (D (ring_of l.ring)) ≡ pos 0

@@ -1,0 +1,5 @@
+// What the demo and the tests share: plates of many corners, and all that a hull answers.
+#![tactic(auto)]
+
+pub mod answers;
+pub mod plate;
