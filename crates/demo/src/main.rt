@@ -4,6 +4,7 @@
 use hull::hull::Hull;
 use samples::answers::Answers;
 use samples::plate::plate;
+use samples::tetrahedron::tetrahedron;
 use solid::Corner;
 use std::io;
 
@@ -18,12 +19,12 @@ impl<'a> Demo<'a> {
     // Enters a ring, and shows what came of it.
     fn enter(&mut self, what: &str, ring: &[Corner]) -> io::Result<()> {
         println!(self.rt; "Enter {what}:")?;
-        let before = Answers::of(&self.hull);
+        let before = Answers::from(&self.hull);
         match self.hull.enter(ring) {
-            Ok(()) => println!(self.rt; "  {}", Answers::of(&self.hull)),
+            Ok(()) => println!(self.rt; "  {}", Answers::from(&self.hull)),
             Err(fault) => {
                 println!(self.rt; "  refused: {fault}")?;
-                if Answers::of(&self.hull) == before {
+                if Answers::from(&self.hull) == before {
                     println!(self.rt; "  the hull answers as before")
                 } else {
                     println!(self.rt; "  the hull has changed")
@@ -34,10 +35,7 @@ impl<'a> Demo<'a> {
 
     // The tetrahedron, face by face.
     fn tetrahedron(&mut self) -> io::Result<()> {
-        let a = Corner::new(1, [0, 0, 0]);
-        let b = Corner::new(2, [600, 0, 0]);
-        let c = Corner::new(3, [0, 600, 0]);
-        let d = Corner::new(4, [0, 0, 600]);
+        let [a, b, c, d] = tetrahedron();
         self.enter("the face 1 3 2", &[a, c, b])?;
         self.enter("the face 1 2 4", &[a, b, d])?;
         self.enter("the face 1 4 3", &[a, d, c])?;
@@ -46,9 +44,7 @@ impl<'a> Demo<'a> {
 
     // One face for each rule that it breaks.
     fn refusals(&mut self) -> io::Result<()> {
-        let a = Corner::new(1, [0, 0, 0]);
-        let b = Corner::new(2, [600, 0, 0]);
-        let c = Corner::new(3, [0, 600, 0]);
+        let [a, b, c, _] = tetrahedron();
         let twin = Corner::new(5, [0, 0, 0]);
         self.enter(
             "a face whose corner 5 lies where corner 1 lies",
@@ -80,7 +76,7 @@ impl<'a> Demo<'a> {
             }
         }
         println!(self.rt; "Fifteen plates of 64 corners each are entered:")?;
-        println!(self.rt; "  {}", Answers::of(&self.hull))?;
+        println!(self.rt; "  {}", Answers::from(&self.hull))?;
         let last = plate(self.rt.alloc(), 100 + 64 * 15, 1000 + 15, 64)?;
         self.enter("a sixteenth plate", last.as_slice())?;
         Ok(())
@@ -90,15 +86,9 @@ impl<'a> Demo<'a> {
     fn alone(&mut self) -> io::Result<()> {
         self.hull.clear();
         println!(self.rt; "Clear:")?;
-        println!(self.rt; "  {}", Answers::of(&self.hull))?;
-        self.enter(
-            "the face 2 3 4 alone",
-            &[
-                Corner::new(2, [600, 0, 0]),
-                Corner::new(3, [0, 600, 0]),
-                Corner::new(4, [0, 0, 600]),
-            ],
-        )?;
+        println!(self.rt; "  {}", Answers::from(&self.hull))?;
+        let [_, b, c, d] = tetrahedron();
+        self.enter("the face 2 3 4 alone", &[b, c, d])?;
         let [x, _, _] = self.hull.edge_sum();
         let volume = self.hull.kept_volume();
         match volume.checked_sub(x) {

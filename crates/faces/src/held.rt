@@ -1,4 +1,4 @@
-// All corners, ring after ring, and where each ring ends.
+// All corners, ring after ring, and where each ring ends. A rule of the project takes all memory first, which no Vec of rings can.
 ghost use Rattle.std.specs.Prelude.{◌≡◌, true, vec_len};
 ghost use Rattle.faces.specs.Cuts.{ends_rise};
 

@@ -1,4 +1,5 @@
 // Faults of the records that describe a solid, each with the number of the record.
+// The format of faults asks for the attribute 0 where there is none, so it is a number here and no Option.
 ghost use Rattle.fault.specs.Numbers.{record_number};
 ghost use Rattle.fault.specs.declared.record.RecordFault.TheVariants.{Text};
 ghost use Rattle.std.specs.Prelude.{◌≡◌};
@@ -21,7 +22,7 @@ pub enum RecordFault {
     Count { record: u32 },
     // an attribute's kind, or the length of its list, is not as tabled
     Kind { record: u32, attribute: u32 },
-    // an attribute breaks the rule of its value; attribute 0 where the source has none
+    // an attribute breaks the rule of its value
     Value { record: u32, attribute: u32 },
     // a name stands twice in an attribute's list
     Twice { record: u32, attribute: u32 },

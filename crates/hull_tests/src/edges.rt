@@ -2,18 +2,8 @@
 use crate::tools::{Trial, bad, good};
 use fault::shape::ShapeFault;
 use samples::answers::Answers;
-use solid::Corner;
+use samples::tetrahedron::tetrahedron;
 use std::test::Fail;
-
-// The corners of the tetrahedron of 6 mm.
-fn tetrahedron() -> [Corner; 4] {
-    [
-        Corner::new(1, [0, 0, 0]),
-        Corner::new(2, [600, 0, 0]),
-        Corner::new(3, [0, 600, 0]),
-        Corner::new(4, [0, 0, 600]),
-    ]
-}
 
 // A directed edge stands once; the fault names the ring's first one that is there, in the ring's direction.
 #[test]
@@ -68,7 +58,7 @@ fn counts(rt: HostRuntime) -> Result<(), Fail> {
     let [a, b, c, d] = tetrahedron();
     trial.enter(good(&[b, c, d]));
     assert_eq!(rt;
-        Answers::of(&trial.hull),
+        Answers::from(&trial.hull),
         Answers {
             faces: 1,
             keys: 3,
@@ -80,7 +70,7 @@ fn counts(rt: HostRuntime) -> Result<(), Fail> {
     );
     trial.enter(good(&[d, c, b]));
     assert_eq!(rt;
-        Answers::of(&trial.hull),
+        Answers::from(&trial.hull),
         Answers {
             faces: 2,
             keys: 3,
@@ -92,7 +82,7 @@ fn counts(rt: HostRuntime) -> Result<(), Fail> {
     );
     trial.hull.clear();
     assert_eq!(rt;
-        Answers::of(&trial.hull),
+        Answers::from(&trial.hull),
         Answers {
             faces: 0,
             keys: 0,
@@ -104,7 +94,7 @@ fn counts(rt: HostRuntime) -> Result<(), Fail> {
     );
     trial.enter_all(&[good(&[a, c, b]), good(&[a, b, d])]);
     assert_eq!(rt;
-        Answers::of(&trial.hull),
+        Answers::from(&trial.hull),
         Answers {
             faces: 2,
             keys: 4,
@@ -116,7 +106,7 @@ fn counts(rt: HostRuntime) -> Result<(), Fail> {
     );
     trial.enter_all(&[good(&[a, d, c]), good(&[b, c, d])]);
     assert_eq!(rt;
-        Answers::of(&trial.hull),
+        Answers::from(&trial.hull),
         Answers {
             faces: 4,
             keys: 4,

@@ -11,3 +11,5 @@ mod limits;
 mod shapes;
 #[cfg(test)]
 mod tools;
+#[cfg(test)]
+mod words;

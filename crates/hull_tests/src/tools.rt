@@ -44,10 +44,10 @@ impl<'a, R> Trial<'a, R> {
 
 impl<'a, R: Abort> Trial<'a, R> {
     pub(crate) fn enter(&mut self, case: Case<'_>) {
-        let before = Answers::of(&self.hull);
+        let before = Answers::from(&self.hull);
         assert_eq!(self.rt; self.hull.enter(case.ring), case.answer);
         if case.answer.is_err() {
-            assert_eq!(self.rt; Answers::of(&self.hull), before);
+            assert_eq!(self.rt; Answers::from(&self.hull), before);
         }
     }
 

@@ -1,4 +1,4 @@
-// A set of numbers below 64 · N, in the bits of N words.
+// A set of numbers below 64 · N, in the bits of N words, whose ones are counted, as a rule of the project asks.
 #![tactic(auto)]
 
 ghost use Rattle.std.specs.Prelude.{◌≡◌, ℕ, ◌*◌, ◌^◌, ◌<◌, true, false, length, set, slice_index_or, slice_set};

@@ -1,8 +1,8 @@
 // The directed edges of a ring in order: each corner with the one after it, and the last with the first.
 ghost use Rattle.std.specs.Prelude.{◌≡◌, ◌<◌};
-ghost use Rattle.ring.specs.Places.{following as following-of};
+ghost use Rattle.ring.specs.Places.{following as following_of};
 ghost use Rattle.solid.specs.Corners.{ring_of};
-ghost use Rattle.solid.specs.Faces.{edges as edges-of};
+ghost use Rattle.solid.specs.Faces.{edges as edges_of};
 
 use solid::Corner;
 use std::marker::Model;
@@ -10,7 +10,7 @@ use std::marker::Model;
 // The place after i in a ring of k corners.
 pub fn following(i: usize, k: usize) -> usize
     requires { i < k }
-    ensures is { result ≡ following-of k i }
+    ensures is { result ≡ following_of k i }
     ensures within { result < k }
 {
     if i + 1 < k { i + 1 } else { 0 }
@@ -26,11 +26,11 @@ pub struct RingEdges<'a> {
 impl<'a> Model for RingEdges<'a> {
     ghost use Rattle.std.specs.Prelude.{List, drop};
     ghost use Rattle.solid.specs.Corners.{ring_of};
-    ghost use Rattle.solid.specs.Faces.{Edge as Edge-of, edges as edges-of};
+    ghost use Rattle.solid.specs.Faces.{Edge as Edge_of, edges as edges_of};
 
-    ghost Value = { List Edge-of };
+    ghost Value = { List Edge_of };
 
-    ghost view = { λ e. drop e.place (edges-of (ring_of e.ring.now)) };
+    ghost view = { λ e. drop e.place (edges_of (ring_of e.ring.now)) };
 }
 
 impl<'a> Iterator for RingEdges<'a> {
@@ -53,7 +53,7 @@ impl<'a> Iterator for RingEdges<'a> {
 
 // The edges of a ring.
 pub fn edges(ring: &[Corner]) -> RingEdges<'_>
-    ensures { result ≡ edges-of (ring_of ring.now) }
+    ensures { result ≡ edges_of (ring_of ring.now) }
 {
     RingEdges { ring, place: 0 }
 }

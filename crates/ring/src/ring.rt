@@ -4,7 +4,7 @@ ghost use Rattle.algebra.specs.Vector.{vector, Inside, Large};
 ghost use Rattle.ring.specs.Places.{Clear, edge_of};
 ghost use Rattle.solid.proofs.Props.{tidy_one};
 ghost use Rattle.solid.specs.Corners.{corner_of, ring_of};
-ghost use Rattle.solid.specs.Faces.{D as D-of};
+ghost use Rattle.solid.specs.Faces.{D as D_of};
 ghost use Rattle.solid.specs.Rules.{Tidy, Planar, Simple};
 
 use crate::edges::edges;
@@ -18,7 +18,7 @@ pub struct Ring<'a> {
     // D of the ring, as `new` computes it
     pub normal: [i64; 3],
     pub ghost tidy: { Tidy (ring_of corners.now) } by { tidy_one (ring_of corners.now) },
-    pub ghost is_normal: { vector normal ≡ D-of (ring_of corners.now) },
+    pub ghost is_normal: { vector normal ≡ D_of (ring_of corners.now) },
     pub ghost large: { Large (vector normal) },
 }
 
@@ -78,6 +78,7 @@ impl<'a> Ring<'a> {
     }
 
     // Whether the ring is free of crossings: each pair of edges is tested once, up to the first that cross.
+    // A rule of the project asks here for nested loops that a label leaves, and so for the flag.
     pub fn is_simple(&self) -> bool
         ensures { Decides result (Simple (ring_of self.now.corners.now)) }
     {

@@ -15,10 +15,11 @@ pub struct Answers {
     pub edge_sum: [i64; 3],
 }
 
-impl Answers {
-    pub fn of(hull: &Hull) -> Answers
-        ensures { IsAnswered (faces_of hull.now) result }
-    {
+// The answers of a hull.
+impl From<&Hull> for Answers {
+    ghost from_gives = { λ hull answers. IsAnswered (faces_of hull.now) answers };
+
+    fn from(hull: &Hull) -> Answers {
         let edge_sum = hull.edge_sum();
         Answers {
             faces: hull.face_count(),

@@ -1,5 +1,6 @@
-// Vectors as three-element arrays by value: differences, sums and products, in widths that cannot overflow within the stated bounds.
-ghost use Rattle.algebra.specs.Vector.{vector, ◌+ᵛ◌, ◌-ᵛ◌, cross as cross-of, dot as dot-of, Near, Inside, Small, Large};
+// Vectors as three-element arrays by value, as a rule of the project asks: differences, sums and products, in widths that cannot overflow within the
+// stated bounds. An array carries no bound of its own, so the calls ask for it.
+ghost use Rattle.algebra.specs.Vector.{vector, ◌+ᵛ◌, ◌-ᵛ◌, cross as cross_of, dot as dot_of, Near, Inside, Small, Large};
 ghost use Rattle.std.specs.Prelude.{◌≡◌, Decides};
 
 // A position with 64 bits to a coordinate.
@@ -47,7 +48,7 @@ pub fn plus(a: [i64; 3], b: [i64; 3]) -> [i64; 3]
 // The vector product of two vectors whose components lie within ±100,000.
 pub fn cross(a: [i64; 3], b: [i64; 3]) -> [i64; 3]
     requires { (Small (vector a)) × (Small (vector b)) }
-    ensures { vector result ≡ cross-of (vector a) (vector b) }
+    ensures { vector result ≡ cross_of (vector a) (vector b) }
 {
     [
         a[1] * b[2] - a[2] * b[1],
@@ -59,7 +60,7 @@ pub fn cross(a: [i64; 3], b: [i64; 3]) -> [i64; 3]
 // The scalar product of two vectors whose components lie within ±2 · 10^13: the sum can reach 1.2 · 10^27, and so it has 128 bits.
 pub fn dot(a: [i64; 3], b: [i64; 3]) -> i128
     requires { (Large (vector a)) × (Large (vector b)) }
-    ensures { result ≡ dot-of (vector a) (vector b) }
+    ensures { result ≡ dot_of (vector a) (vector b) }
 {
     let a = a.map(i128::from);
     let b = b.map(i128::from);

@@ -5,7 +5,8 @@ use std::marker::Model;
 
 mod calls;
 
-// Values by keys, in rising order of the keys.
+// Values by keys, in rising order of the keys. A rule of the project takes all memory first: std's BTreeMap takes some at each new key, and the
+// maps by hash, which can reserve, know no order of keys.
 #[derive(Drop)]
 pub struct Table<K: Ord, V> {
     entries: Vec<(K, V)>,

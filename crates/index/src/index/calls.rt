@@ -7,7 +7,8 @@ ghost use Rattle.solid.specs.Rules.{key_count_of};
 ghost use Rattle.std.specs.Prelude.{◌≡◌, [], ◌∷◌, ◌++◌, length, IfOk, Ok};
 
 use crate::index::Index;
-use crate::index::growth::{add_corners, add_edges};
+use crate::index::corners::Corners;
+use crate::index::growth::add_edges;
 use crate::index::limits::{EDGES, FACES, KEYS};
 use faces::held::Faces;
 use ring::ring::Ring;
@@ -20,13 +21,11 @@ impl Index {
         ensures { IfOk result (λ x. faces_of x ≡ []) }
     {
         let faces = Faces::new(heap, FACES, EDGES)?;
-        let positions = Table::new(heap, KEYS)?;
-        let keys = Table::new(heap, KEYS)?;
+        let corners = Corners::new(heap, KEYS)?;
         let edges = Table::new(heap, EDGES)?;
         Ok(Index {
             faces,
-            positions,
-            keys,
+            corners,
             edges,
         })
     }
@@ -37,7 +36,7 @@ impl Index {
         ensures { faces_of self.new ≡ faces_of self.old ++ ring_of ring.now.corners.now ∷ [] }
     {
         let first = self.faces.corner_count();
-        add_corners(&mut self.positions, &mut self.keys, ring.corners);
+        self.corners.add_all(ring.corners);
         add_edges(&mut self.edges, first, ring);
         // Test 18 found room.
         let _ = self.faces.push(ring.corners);
@@ -48,8 +47,7 @@ impl Index {
         ensures { faces_of self.new ≡ [] }
     {
         self.faces.clear();
-        self.positions.clear();
-        self.keys.clear();
+        self.corners.clear();
         self.edges.clear();
     }
 
@@ -64,7 +62,7 @@ impl Index {
     pub fn key_count(&self) -> usize
         ensures { result ≡ key_count_of (faces_of self.now) }
     {
-        self.positions.len()
+        self.corners.positions.len()
     }
 
     // How many directed edges there are.

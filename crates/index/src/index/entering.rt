@@ -46,9 +46,9 @@ impl Index {
     fn agrees(&self, c: Corner) -> bool
         ensures { Decides result (AgreesWith (faces_of self.now) (corner_of c)) }
     {
-        match self.positions.find(&c.key) {
+        match self.corners.positions.find(&c.key) {
             Some(position) => position == c.position,
-            None => self.keys.find(&c.position).is_none(),
+            None => self.corners.keys.find(&c.position).is_none(),
         }
     }
 
@@ -91,7 +91,7 @@ impl Index {
     {
         ring.corners
             .iter()
-            .filter(|c| self.positions.find(&c.key).is_none())
+            .filter(|c| self.corners.positions.find(&c.key).is_none())
             .count()
     }
 
@@ -101,7 +101,7 @@ impl Index {
     {
         self.faces.len() < FACES
             && self.faces.corner_count() + ring.corners.len() <= EDGES
-            && self.positions.len() + self.new_keys(ring) <= KEYS
+            && self.corners.positions.len() + self.new_keys(ring) <= KEYS
     }
 
     // The tests in order: the ring with its D, or the fault of the first test that fails.

@@ -1,12 +1,11 @@
 // What a face that has passed the tests adds to the tables.
 ghost use Rattle.std.specs.Prelude.{◌≤◌, [], ◌∷◌, length};
 ghost use Rattle.tracking.specs.Growth.{Grows, Reverses};
-ghost use Rattle.tracking.specs.Tables.{position_cmp, edge_cmp, key_pairs, position_pairs, edge_pairs};
+ghost use Rattle.tracking.specs.Tables.{edge_cmp, edge_pairs};
 ghost use Rattle.index.specs.Meaning.{faces_of};
 ghost use Rattle.solid.specs.Corners.{ring_of};
 ghost use Rattle.solid.specs.Entering.{AllAllowed};
-ghost use Rattle.solid.specs.Faces.{edges as edges-of};
-ghost use Rattle.std.specs.Ordering.{nat_cmp};
+ghost use Rattle.solid.specs.Faces.{edges as edges_of};
 
 use crate::index::Index;
 use ring::edges::edges;
@@ -14,34 +13,10 @@ use ring::ring::Ring;
 use solid::Corner;
 use table::Table;
 
-// Puts a corner's key and position into the tables.
-fn add_corner(positions: &mut Table<u32, [i32; 3]>, keys: &mut Table<[i32; 3], u32>, c: Corner)
-    ensures positions { Grows nat_cmp positions.old (key_pairs (c ∷ [])) positions.new }
-    ensures keys { Grows position_cmp keys.old (position_pairs (c ∷ [])) keys.new }
-{
-    // Test 18 found room.
-    let _ = positions.insert(c.key, c.position);
-    let _ = keys.insert(c.position, c.key);
-}
-
-// Puts the keys and positions of the ring's corners into the tables.
-pub(super) fn add_corners(
-    positions: &mut Table<u32, [i32; 3]>,
-    keys: &mut Table<[i32; 3], u32>,
-    ring: &[Corner],
-)
-    ensures positions { Grows nat_cmp positions.old (key_pairs ring.now) positions.new }
-    ensures keys { Grows position_cmp keys.old (position_pairs ring.now) keys.new }
-{
-    for c in ring {
-        add_corner(positions, keys, *c);
-    }
-}
-
 // Puts the ring's directed edges into the table, numbered from `first` on.
 pub(super) fn add_edges(table: &mut Table<(u32, u32), usize>, first: usize, ring: &Ring<'_>)
     requires { first ≤ 3072 }
-    ensures { Grows edge_cmp table.old (edge_pairs first (edges-of (ring_of ring.now.corners.now))) table.new }
+    ensures { Grows edge_cmp table.old (edge_pairs first (edges_of (ring_of ring.now.corners.now))) table.new }
 {
     for (i, (a, b)) in edges(ring.corners).enumerate() {
         let _ = table.insert((a.key, b.key), first + i);

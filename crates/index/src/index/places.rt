@@ -1,4 +1,6 @@
 // The directed edges by their places, as they were entered: their keys, reverses and neighbours. The crates that certify walk over these.
+// Places and faces are numbers, and each call asks that there is such a one: the table, a span and a set of marks have numbers, so a type for them
+// would be made of one with that same requirement, at each of them, and would have to say of which index it is.
 ghost use Rattle.std.specs.Prelude.{◌≡◌, suc, ◌<◌, map, length, MatchOption};
 ghost use Rattle.index.specs.Meaning.{faces_of, places_by_key};
 ghost use Rattle.solid.specs.Faces.{flip, all_edges};

@@ -14,7 +14,7 @@ pub returns-in-Some : goal.returns-in-Some
 returns-in-Some c =
     let h = c.args.self.now in
     let k = kept_out h.kept in
-    agrees_some h.faces k.consistent c.args.c c.in-Some.position c.eq.result (sym (c.in-Some.ensures ∙ tracked nat_cmp_total h.positions _ k.positions_held _))
+    agrees_some h.faces k.consistent c.args.c c.in-Some.position c.eq.result (sym (c.in-Some.ensures ∙ tracked nat_cmp_total h.corners.positions _ k.positions_held _))
     (same_vector c.in-Some.position c.args.c.position c.eq.result (search rules) (search rules) c.eq.ensures)
 
 turned : (a r : Bool) → a ≡ not r → not a ≡ r
@@ -27,5 +27,5 @@ returns-in-None c =
     let k = kept_out h.kept in
     let long : length c.args.c.position ≡ 3 = search rules in
     subst (λ b. Decides b (AgreesWith (faces_of h) (corner_of c.args.c))) (turned _ _ c.is_none.ensures)
-    (agrees_none h.faces k.consistent c.args.c (sym (c.in-None.ensures ∙ tracked nat_cmp_total h.positions _ k.positions_held _)) c.find-in-None.result
-    (rw (coordinates_of c.args.c.position long) (c.find-in-None.ensures ∙ tracked position_cmp_total h.keys _ k.keys_held _)))
+    (agrees_none h.faces k.consistent c.args.c (sym (c.in-None.ensures ∙ tracked nat_cmp_total h.corners.positions _ k.positions_held _)) c.find-in-None.result
+    (rw (coordinates_of c.args.c.position long) (c.find-in-None.ensures ∙ tracked position_cmp_total h.corners.keys _ k.keys_held _)))

@@ -14,7 +14,7 @@ use Rattle.tracking.proofs.Props.{kept_out}
 use Rattle.index.proofs.index.Index.has_room.Goals as goal
 use Rattle.index.proofs.index.Index.has_room.Goals.{then-len-lt-FACES, else-len-lt-FACES}
 
-size : (x : Index) → len (map_of nat_cmp x.positions) ≡ key_count_of (faces_of x)
+size : (x : Index) → len (map_of nat_cmp x.corners.positions) ≡ key_count_of (faces_of x)
 size x = ap len (kept_out x.kept).positions_held ∙ key_size x.faces
 
 pub overflow_add-result : goal.overflow_add-result

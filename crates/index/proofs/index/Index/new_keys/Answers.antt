@@ -35,9 +35,9 @@ returns c =
     let tidy = c.args.ring.now.tidy in
     let ks : List ℕ = map (λ (c : Corner). c.key) (corners (faces_of x)) in
     let ns : List ℕ = map (λ (c : Corner). c.key) (ring_of r) in
-    let found : StoredCorner → Bool = λ s. not (is_some (get (map_of nat_cmp x.positions) s.key)) in
+    let found : StoredCorner → Bool = λ s. not (is_some (get (map_of nat_cmp x.corners.positions) s.key)) in
     let counted : c.count.result ≡ count_by found r = search rules in
-    let same = kept_alike found (λ s. not (has eqb s.key ks)) r (λ s i. ap (λ o. not (is_some o)) (tracked nat_cmp_total x.positions _ (kept_out x.kept).positions_held s.key) ∙ ap not (found_key x.faces s.key)) in
+    let same = kept_alike found (λ s. not (has eqb s.key ks)) r (λ s i. ap (λ o. not (is_some o)) (tracked nat_cmp_total x.corners.positions _ (kept_out x.kept).positions_held s.key) ∙ ap not (found_key x.faces s.key)) in
     let new = counted ∙ sym (length-filter found r) ∙ same ∙ by_keys (λ n. not (has eqb n ks)) r in
     let all : take (length ns) ns ≡ ns = take_all (length ns) ns (omega arith) in (
       key_count_more (faces_of x) (ring_of r)

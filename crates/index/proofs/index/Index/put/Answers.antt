@@ -21,12 +21,12 @@ add_edges-requires c =
 pub invariant_of-self : goal.invariant_of-self
 invariant_of-self c =
     let x = c.args.self.now in record {
-      kept = ∣ grown x.faces c.push.new.self c.args.ring.now.corners.now x.positions c.add_corners.new.positions x.keys c.add_corners.new.keys x.edges c.add_edges.new.table c.push.result
-          (kept_out x.kept) (may (goal.at.invariant_of-self c).Start) c.push.ensures c.add_corners.ensures.positions c.add_corners.ensures.keys (rw (sym c.corner_count-first.ensures) c.add_edges.ensures) ∣₁;
+      kept = ∣ grown x.faces c.push.new.self c.args.ring.now.corners.now x.corners.positions c.add_all.new.self.positions x.corners.keys c.add_all.new.self.keys x.edges c.add_edges.new.table c.push.result
+          (kept_out x.kept) (may (goal.at.invariant_of-self c).Start) c.push.ensures c.add_all.ensures.positions c.add_all.ensures.keys (rw (sym c.corner_count-first.ensures) c.add_edges.ensures) ∣₁;
     }
 
 pub returns : goal.returns
 returns c =
     let x = c.args.self.now in
-    rings_grown x.faces c.push.new.self c.args.ring.now.corners.now x.positions c.add_corners.new.positions x.keys c.add_corners.new.keys x.edges c.add_edges.new.table c.push.result
+    rings_grown x.faces c.push.new.self c.args.ring.now.corners.now x.corners.positions c.add_all.new.self.positions x.corners.keys c.add_all.new.self.keys x.edges c.add_edges.new.table c.push.result
     (kept_out x.kept) (may (goal.at.returns c).Start) c.push.ensures

@@ -4,13 +4,13 @@ use Rattle.std.specs.FinMap.{nat_cmp-IsAntisymmetric}
 use Rattle.tracking.proofs.Orders.{position_cmp_total, position_cmp_tells}
 use Rattle.tracking.proofs.Finds.{coordinates_of}
 use Rattle.tracking.proofs.Grows.{grows_one}
-use Rattle.index.proofs.index.growth.add_corner.Goals as goal
+use Rattle.index.proofs.index.corners.Corners.add.Goals as goal
 
 pub returns : goal.returns
 returns c =
     let long : length c.args.c.position ≡ 3 = search rules in
     let p = c.insert.ensures in
     let k = c.insert-2.ensures in record {
-      positions = grows_one nat_cmp_total nat_cmp-IsAntisymmetric c.args.positions.now c.insert.new.self _ _ c.insert.result p.ok p.refuses p.room;
-      keys = rw (coordinates_of c.args.c.position long) (grows_one position_cmp_total position_cmp_tells c.args.keys.now c.insert-2.new.self _ _ c.insert-2.result k.ok k.refuses k.room);
+      positions = grows_one nat_cmp_total nat_cmp-IsAntisymmetric c.args.self.now.positions c.insert.new.self _ _ c.insert.result p.ok p.refuses p.room;
+      keys = rw (coordinates_of c.args.c.position long) (grows_one position_cmp_total position_cmp_tells c.args.self.now.keys c.insert-2.new.self _ _ c.insert-2.result k.ok k.refuses k.room);
     }
