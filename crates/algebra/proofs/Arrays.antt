@@ -4,20 +4,17 @@ use Rattle.std.specs.Ordering.{int_eq}
 use Rattle.std.specs.Cmp.Lexicographic.{pointwise}
 use Rattle.std.proofs.lemmas.Slice.Eq.{slice_eq-Decides}
 use Rattle.std.proofs.lemmas.Bool.Decides.{Decides-int_eq, Decides-like}
-use Rattle.algebra.specs.Vector.{V3, vector}
+use Rattle.algebra.specs.Vector.{vector, coordinates}
 
-listed : V3 → List ℤ
-listed v = v.x ∷ v.y ∷ v.z ∷ []
-
-listed_vector : (xs : List ℤ) → length xs ≡ 3 → xs ≡ listed (vector xs)
-unfolding listed
-listed_vector [] h = absurd (omega arith)
-listed_vector (a ∷ []) h = absurd (omega arith)
-listed_vector (a ∷ b ∷ []) h = absurd (omega arith)
-listed_vector (a ∷ b ∷ c ∷ []) h = refl
-listed_vector (a ∷ b ∷ c ∷ d ∷ ds) h = absurd (omega arith)
+-- a list of three is that of its vector's components
+pub coordinates_of : (p : List ℤ) → length p ≡ 3 → coordinates (vector p) ≡ p
+coordinates_of [] e = absurd (omega arith)
+coordinates_of (x ∷ []) e = absurd (omega arith)
+coordinates_of (x ∷ y ∷ []) e = absurd (omega arith)
+coordinates_of (x ∷ y ∷ z ∷ []) e = refl
+coordinates_of (x ∷ y ∷ z ∷ w ∷ p) e = absurd (omega arith)
 
 -- r is `a == b`
 pub same_vector : (a b : List ℤ) (r : Bool) → length a ≡ 3 → length b ≡ 3 → r ≡ pointwise int_eq a b → Decides r (vector a ≡ vector b)
 same_vector a b r h k e =
-    Decides-like r (λ same. ap vector same) (λ same. listed_vector a h ∙ ap listed same ∙ sym (listed_vector b k)) (slice_eq-Decides Decides-int_eq a b r e)
+    Decides-like r (λ same. ap vector same) (λ same. sym (coordinates_of a h) ∙ ap coordinates same ∙ coordinates_of b k) (slice_eq-Decides Decides-int_eq a b r e)

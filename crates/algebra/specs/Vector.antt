@@ -1,5 +1,5 @@
 -- Vectors of three integers. A Rattle array `[i64; 3]` is a list in a clause, and `vector` reads it.
-use Rattle.std.specs.Prelude.{ℕ, ◌*◌, ◌^◌, ◌≤◌, List, ℤ, pos, ◌+ℤ◌, ◌-ℤ◌, ◌*ℤ◌, neg_ℤ, slice_index_or, unsigned_abs}
+use Rattle.std.specs.Prelude.{ℕ, ◌*◌, ◌^◌, ◌≤◌, List, [], ◌∷◌, ℤ, pos, ◌+ℤ◌, ◌-ℤ◌, ◌*ℤ◌, neg_ℤ, slice_index_or, unsigned_abs}
 
 pub record V3 : Type 0 where
   pub x : ℤ
@@ -8,6 +8,10 @@ pub record V3 : Type 0 where
 
 abbrev pub vector : List ℤ → V3
 vector l = record { x = slice_index_or l 0 (pos 0); y = slice_index_or l 1 (pos 0); z = slice_index_or l 2 (pos 0) }
+
+-- its three components in a list
+abbrev pub coordinates : V3 → List ℤ
+coordinates v = v.x ∷ v.y ∷ v.z ∷ []
 
 abbrev pub null : V3
 null = record { x = pos 0; y = pos 0; z = pos 0 }

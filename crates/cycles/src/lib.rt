@@ -33,11 +33,9 @@ fn go_round(closed: &ClosedIndex<'_>, marks: &mut Places, start: usize)
 pub fn broken_key(closed: &ClosedIndex<'_>) -> Option<u32>
     ensures { MatchOption result (AllRound (faces_in closed.now)) (λ v. LeastNotRound (faces_in closed.now) v) }
 {
-    let index = closed.index();
     let mut marks = Places::none();
     let mut last = None;
-    for &(_, place) in index.edges_by_key() {
-        let key = index.key(place);
+    for &((key, _), place) in closed.index().edges_by_key() {
         if last != Some(key) {
             go_round(closed, &mut marks, place);
             last = Some(key);

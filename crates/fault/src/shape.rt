@@ -7,8 +7,8 @@ use crate::record::RecordFault;
 use std::error::Error;
 use std::fmt;
 
-// `face` is the position of the face asked or entered, from 1; the faults of a whole hull have none.
-// The format of faults asks for 0 where no face was, so it is a number and no Option.
+// `face` is the position of the face asked or entered, from 1. The fault of a source may come before any face is asked: the format of faults has 0
+// there, so it is a number and no Option. The faults of a whole hull have none.
 #[derive(Clone, Copy, Debug, PartialEq, Eq)]
 pub enum ShapeFault {
     // the source answered with a fault

@@ -5,7 +5,7 @@ use fault::text::TextFault;
 use samples::answers::Answers;
 use std::test::Fail;
 
-// Each fault with its number, and with the places that it has.
+// A fault of each kind of place: its number, and where it is.
 #[test]
 fn faults(rt: HostRuntime) -> Result<(), Fail> {
     let heap = rt.alloc();

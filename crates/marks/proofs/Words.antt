@@ -7,6 +7,7 @@ use Rattle.std.proofs.lemmas.Nat.{shr-shr, div-mul-add, mod-mul-add, mod_below}
 use Rattle.std.proofs.lemmas.List.{set-append_left, set-append_right, get_or_append_left, get_or-append_right}
 use Rattle.std.proofs.lemmas.Bool.Decides.{nat_tests}
 use Rattle.marks.specs.Bits.{bits, members, ones_of}
+use Rattle.marks.specs.declared.Marks.{Marks}
 
 pub length_bits : (k w : ℕ) → length (bits k w) ≡ k
 unfolding bits
@@ -133,3 +134,7 @@ none_past (x ∷ xs) ys (suc i) f g = none_past xs ys i (λ j. f (suc j)) g
 pub none_in : (n i : ℕ) → get_or (members (replicate n 0)) i false ≡ false
 none_in zero i = refl
 none_in (suc n) i = none_past (bits 64 0) (members (replicate n 0)) i (zeros 64) (none_in n)
+
+-- a set of n words has a bit for each of 64 · n numbers
+pub members_long : (n : ℕ) (m : Marks n) → length (members m.words) ≡ 64 * n
+members_long n m = length_members m.words ∙ ap (λ k. 64 * k) m.long

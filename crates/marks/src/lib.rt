@@ -39,8 +39,10 @@ impl<const N: usize> Marks<N> {
         requires { 64 * N < 2 ^ 64 }
         ensures { result ≡ ones_of (members self.now.words) }
     {
+        // A sum over a chain was tried: that it fits, and what it is, stayed open.
         let mut n = 0;
-        for w in self.words.iter() {
+        for w in &self.words {
+            // A usize is From no u32.
             n += w.count_ones() as usize;
         }
         n

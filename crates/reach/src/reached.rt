@@ -8,7 +8,7 @@ use marks::Marks;
 
 mod calls;
 
-// A set of faces, of which a hull has at most 512. A face waits from when it is reached until its edges are crossed, so those that wait are no
+// A set of faces, of which a hull has at most 512. A face waits from when it is reached until it is taken up, so those that wait are no
 // more than those in the set, and have room.
 #[derive(Drop)]
 pub(crate) struct Reached {

@@ -4,6 +4,7 @@ use Rattle.std.proofs.lemmas.List.{get_or_append_left, get_or_push, get_or-map, 
 use Rattle.std.proofs.lemmas.Bool.{cases_lt, cases_order, cond-true, cond-false, cond_both, lt-ltb, le-ltb, ltb-true, ltb-false}
 use Rattle.std.proofs.lemmas.Bool.Decides.{nat_tests}
 use Rattle.algebra.specs.Vector.{Inside}
+use Rattle.solid.specs.Places.{no_edge}
 use Rattle.solid.specs.declared.Corner.{Corner as StoredCorner}
 use Rattle.solid.proofs.Members.{in_at, at_in}
 use Rattle.ring.specs.Places.{blank, corner, following, edge, Clear}
@@ -59,9 +60,6 @@ next_at c cs i h = elim (cases_lt i (length cs)) [
 pub edges_at : (r : List StoredCorner) (d : Edge) (i : ℕ) → i < length r → get_or (edges (ring_of r)) i d ≡ edge r i
 edges_at [] d i h = absurd (omega arith)
 edges_at (c ∷ cs) d i h = steps_at c cs c d i (omega arith) ∙ ap (λ x. (corner (c ∷ cs) i, x)) (next_at c cs i (omega arith))
-
-abbrev pub no_edge : Edge
-no_edge = (corner_of blank, corner_of blank)
 
 pub edge_in : (r : List StoredCorner) (i : ℕ) → i < length r → In (edge r i) (edges (ring_of r))
 edge_in r i h = subst (λ e. In e (edges (ring_of r))) (edges_at r no_edge i h) (in_at (edges (ring_of r)) no_edge i (omega (arith, edges_length r)))

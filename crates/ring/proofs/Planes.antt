@@ -6,13 +6,14 @@ use Rattle.algebra.specs.Vector.{V3, ◌+ᵛ◌, Near, Within, Large}
 use Rattle.algebra.proofs.Bounds.{◌∷ᵛ◌, vector_within}
 use Rattle.algebra.proofs.Machine.{done}
 use Rattle.algebra.proofs.Vectors.{𝐚, 𝐛, 𝐜, nullᴱ, ◌+ᴱ◌, crossᴱ, by_ringᵛ}
+use Rattle.solid.specs.Places.{no_edge}
 use Rattle.solid.specs.declared.Corner.{Corner as StoredCorner}
 use Rattle.ring.specs.Places.{following}
 use Rattle.solid.specs.Corners.{ring_of}
 use Rattle.solid.specs.Faces.{edges, span, spans, D, start}
 use Rattle.solid.specs.Rules.{Tidy}
 use Rattle.ring.specs.Places.{corner, edge}
-use Rattle.ring.proofs.Places.{no_edge, inside_at, few_at, edges_length, edges_at, following_within}
+use Rattle.ring.proofs.Places.{inside_at, few_at, edges_length, edges_at, following_within}
 
 pub start_is : (r : List StoredCorner) → (corner r 0).position ≡ start (ring_of r)
 start_is [] = refl

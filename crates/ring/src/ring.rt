@@ -52,6 +52,7 @@ impl<'a> Ring<'a> {
         for (from, to) in edges(corners) {
             let a = wide(from.position);
             let b = wide(to.position);
+            // Bound first: the check proves nothing of an array that a call returns where it is assigned straight.
             let more = plus(normal, cross(a, b));
             normal = more;
         }

@@ -5,7 +5,7 @@ ghost use Rattle.samples.specs.Answers.{IsAnswered};
 use hull::hull::Hull;
 use std::fmt;
 
-#[derive(Clone, Copy, Debug, PartialEq)]
+#[derive(Clone, Copy, Debug, PartialEq, Eq)]
 pub struct Answers {
     pub faces: usize,
     pub keys: usize,

@@ -1,5 +1,6 @@
 -- The entries of a map by their places in rising order of the keys.
-use Rattle.std.proofs.Common.{◌≡◌, ℕ, zero, suc, ◌<◌, true, false, cond, T, List, [], ◌∷◌, length, get_or, is_some, Some, None, Option, sym, refl, ap, ◌∙◌, true≢false, arith}
+use Rattle.std.proofs.Common.{◌≡◌, ℕ, zero, suc, ◌<◌, true, false, cond, T, List, [], ◌∷◌, length, get_or, is_some, Some, sym, refl, ap, ◌∙◌, true≢false, arith}
+use Rattle.std.proofs.lemmas.Option.{same_Some}
 use Rattle.std.specs.declared.cmp.Ordering.{Ordering}
 use Rattle.std.specs.declared.cmp.Ordering.TheVariants.{Less, Equal}
 use Rattle.std.specs.Ordering.{eq_by_cmp, is_eq}
@@ -14,16 +15,11 @@ module _ {K V : Type 0} {R : K → K → Ordering} (o : IsTotalOrder R) where
   rising (e ∷ es) s zero (suc j) d l m = below_at o e.0 es j d (both _ _ s).0 (omega arith)
   rising (e ∷ es) s (suc i) (suc j) d l m = rising es (both _ _ s).1 i j d (omega arith) (omega arith)
 
-  value : V → Option V → V
-  value v (Some w) = w
-  value v None = v
-
   stands : (q : K) (v : V) (es : List (K × V)) → find R q es ≡ Some v → (i : ℕ) × (i < length es) × ((d : K × V) → (R q (get_or es i d).0 ≡ Equal) × ((get_or es i d).1 ≡ v))
-  unfolding value
   stands q v [] h = absurd (true≢false (sym (ap is_some h)))
   stands q v (e ∷ es) h =
       elim (eq_by_cmp R q e.0) as (λ b. eq_by_cmp R q e.0 ≡ b → cond b (Some e.1) (find R q es) ≡ Some v → (i : ℕ) × (i < length (e ∷ es)) × ((d : K × V) → (R q (get_or (e ∷ es) i d).0 ≡ Equal) × ((get_or (e ∷ es) i d).1 ≡ v))) [
-        | true ↦ λ t g. (0, omega arith, λ d. ((Equal-is _).0 t, ap (value v) g))
+        | true ↦ λ t g. (0, omega arith, λ d. ((Equal-is _).0 t, same_Some _ _ g))
         | false ↦ λ t g. (let k = stands q v es g in (suc k.0, omega (arith, k.1), λ d. k.2 d))
       ] refl h
 

@@ -5,8 +5,8 @@ use std::marker::Model;
 
 mod calls;
 
-// Values by keys, in rising order of the keys. A rule of the project takes all memory first: std's BTreeMap takes some at each new key, and the
-// maps by hash, which can reserve, know no order of keys.
+// Values by keys, in rising order of the keys. A rule of the project takes all memory first: std's BTreeMap takes some at each new key. A
+// HashMap can reserve, but knows no order, and certifying goes over the edges in the order of their keys; so one kind of table serves all.
 #[derive(Drop)]
 pub struct Table<K: Ord, V> {
     entries: Vec<(K, V)>,
@@ -24,6 +24,6 @@ impl<K: Ord, V> Model for Table<K, V> {
     ghost invariant = { λ t. T (is_sorted K.cmp t.entries.items) };
 }
 
-// A new key finds no room left.
+// There is no room left for what is put in.
 #[derive(Clone, Copy, Debug, PartialEq, Eq)]
 pub struct NoRoom;

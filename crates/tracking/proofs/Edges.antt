@@ -2,6 +2,7 @@
 use Rattle.std.proofs.Common.{◌≡◌, ℕ, zero, suc, ◌+◌, ◌<◌, Bool, true, false, cond, ◌||◌, List, [], ◌∷◌, length, filter, get_or, is_some, Some, sym, refl, ap, ◌∙◌, subst, inl, inr, true≢false, arith}
 use Rattle.std.specs.Ordering.{eq_by_cmp}
 use Rattle.std.specs.FinMap.{find}
+use Rattle.solid.specs.Places.{no_edge}
 use Rattle.solid.specs.Corners.{ring_of}
 use Rattle.solid.specs.Entering.{AllAllowed, FirstIn}
 use Rattle.solid.specs.Faces.{Corner, Ring, Edge, flip, edges, all_edges, same_edge}
@@ -13,7 +14,7 @@ use Rattle.solid.proofs.Members.{edge_from as edge-start, edge_to as edge-end, e
 use Rattle.solid.proofs.Tests.{edge_tells}
 use Rattle.solid.proofs.Cancel.{in_from_has, has_from_in}
 use Rattle.ring.specs.Places.{edge}
-use Rattle.ring.proofs.Places.{edges_at, edges_length, no_edge}
+use Rattle.ring.proofs.Places.{edges_at, edges_length}
 use Rattle.tracking.specs.Tables.{edge_cmp, end_keys, edge_pairs}
 use Rattle.tracking.proofs.Orders.{ends_test}
 use Rattle.tracking.specs.Tests.{AgreesWith}

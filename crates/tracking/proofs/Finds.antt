@@ -1,9 +1,9 @@
 -- What the tables find, said of the faces' corners.
-use Rattle.std.proofs.Common.{◌≡◌, ℕ, Bool, not, List, [], ◌∷◌, length, ℤ, is_some, Some, None, Decides, Option, sym, refl, ap, ◌∙◌, subst, inl, inr, true≢false, arith}
+use Rattle.std.proofs.Common.{◌≡◌, ℕ, Bool, not, List, [], ◌∷◌, ℤ, is_some, Some, None, Decides, Option, sym, refl, ap, ◌∙◌, subst, inl, inr, true≢false}
 use Rattle.std.specs.Ordering.{nat_cmp}
 use Rattle.std.specs.Cmp.{nat_cmp_total}
 use Rattle.std.specs.FinMap.{find, nat_cmp-IsAntisymmetric}
-use Rattle.algebra.specs.Vector.{V3, vector}
+use Rattle.algebra.specs.Vector.{V3, vector, coordinates}
 use Rattle.faces.specs.Held.{stored_corners, rings}
 use Rattle.faces.specs.declared.held.Faces.{Faces}
 use Rattle.faces.proofs.Pushes.{corners_held}
@@ -13,7 +13,7 @@ use Rattle.solid.specs.Lists.{In}
 use Rattle.solid.specs.Rules.{corners, Consistent}
 use Rattle.solid.specs.declared.Corner.{Corner as StoredCorner}
 use Rattle.solid.proofs.Members.{in_map}
-use Rattle.tracking.specs.Tables.{position_cmp, coordinates, key_pairs, position_pairs}
+use Rattle.tracking.specs.Tables.{position_cmp, key_pairs, position_pairs}
 use Rattle.tracking.specs.Tests.{AgreesWith}
 use Rattle.tracking.proofs.Orders.{position_cmp_total, position_cmp_tells}
 use Rattle.tracking.proofs.Pairs.{lookup_in, lookup_out}
@@ -32,14 +32,6 @@ module _ (f : Faces) where
       unmap (s ∷ ss) (inr i) = let k = unmap ss i in (k.0, inr k.1, k.2)
 
 -- ---- positions by their coordinates
--- a position of three coordinates is the list of them
-pub coordinates_of : (p : List ℤ) → length p ≡ 3 → coordinates (vector p) ≡ p
-coordinates_of [] e = absurd (omega arith)
-coordinates_of (x ∷ []) e = absurd (omega arith)
-coordinates_of (x ∷ y ∷ []) e = absurd (omega arith)
-coordinates_of (x ∷ y ∷ z ∷ []) e = refl
-coordinates_of (x ∷ y ∷ z ∷ w ∷ p) e = absurd (omega arith)
-
 pub coordinates_tell : (v w : V3) → coordinates v ≡ coordinates w → v ≡ w
 coordinates_tell v w e = ap vector e
 

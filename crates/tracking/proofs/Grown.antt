@@ -4,8 +4,8 @@ use mathlib.Core.List.{map-append}
 use Rattle.std.specs.Bool.{⊤}
 use Rattle.std.specs.Ordering.{nat_cmp, eq_by_cmp}
 use Rattle.std.specs.FinMap.{from_entries, len}
-use Rattle.std.proofs.lemmas.List.{length-map}
-use Rattle.algebra.specs.Vector.{vector}
+use Rattle.std.proofs.lemmas.List.{length-map, length_push}
+use Rattle.algebra.specs.Vector.{vector, coordinates}
 use Rattle.faces.specs.Held.{stored_corners, stored_rings, rings, Pushed}
 use Rattle.faces.specs.declared.held.Faces.{Faces}
 use Rattle.solid.specs.Corners.{corner_of, ring_of}
@@ -21,12 +21,12 @@ use Rattle.solid.proofs.Rolls.{consistent_more}
 use Rattle.table.specs.declared.NoRoom.{NoRoom}
 use Rattle.table.specs.declared.Table.{Table}
 use Rattle.tracking.specs.Growth.{Grows}
-use Rattle.tracking.specs.Tables.{position_cmp, edge_cmp, coordinates, key_pairs, position_pairs, edge_pairs, Tracks, Kept}
+use Rattle.tracking.specs.Tables.{position_cmp, edge_cmp, key_pairs, position_pairs, edge_pairs, Tracks, Kept}
 use Rattle.tracking.proofs.Finds.{held_in, coordinates_tell}
 use Rattle.tracking.proofs.Grows.{edge_pairs-append}
 use Rattle.tracking.proofs.Orders.{position_cmp_total, edge_cmp_total, position_test}
 use Rattle.tracking.proofs.Pairs.{firsts_of, firsts, size_of_pairs}
-use Rattle.tracking.proofs.Keys.{stored_keys, key_size, edge_total, face_total, edges_more, faces_more}
+use Rattle.tracking.proofs.Keys.{stored_keys, key_size, edge_total, face_total, edges_more}
 
 -- ---- as many positions as keys
 module _ {X A B : Type 0} (f : X → A) (g : X → B) {s : A → A → Bool} {t : B → B → Bool} (s-tells : Tells s) (t-tells : Tells t) where
@@ -61,7 +61,7 @@ module _ (f g : Faces) (ring : List StoredCorner) (positions positions' : Table 
   done : IsOk r
   done =
       pushed.answer 512 3072 kept.face_room
-      (omega (arith, may.limits.faces, faces_more (rings f) (ring_of ring), face_total f))
+      (omega (arith, may.limits.faces, length_push (rings f) (ring_of ring), face_total f))
       (omega (arith, may.limits.edges, edges_more (rings f) (ring_of ring), edge_total f, length-map ring corner_of))
 
   pub rings_grown : rings g ≡ rings f ++ ring_of ring ∷ []

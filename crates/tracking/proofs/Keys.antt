@@ -121,6 +121,3 @@ face_total f = length-map (stored_rings f) ring_of
 
 pub edges_more : (fs : List Ring) (r : Ring) → length (all_edges (fs ++ r ∷ [])) ≡ length (all_edges fs) + length r
 edges_more fs r = ap length (all_edges_more fs r) ∙ length-append (all_edges fs) (edges r) ∙ ap (λ n. length (all_edges fs) + n) (edges_length r)
-
-pub faces_more : (fs : List Ring) (r : Ring) → length (fs ++ r ∷ []) ≡ length fs + 1
-faces_more fs r = length-append fs (r ∷ [])

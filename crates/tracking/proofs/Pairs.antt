@@ -1,5 +1,6 @@
 -- Maps made of pairs: what they find, how many keys they have, and what one pair more makes of them.
 use Rattle.std.proofs.Common.{◌≡◌, ℕ, suc, ◌+◌, Bool, true, false, cond, ◌||◌, List, [], ◌∷◌, ◌++◌, map, is_some, Some, None, Option, sym, refl, ap, ◌∙◌, ap₂, inl, inr, true≢false, arith}
+use Rattle.std.proofs.lemmas.Option.{same_Some}
 use Rattle.std.specs.declared.cmp.Ordering.{Ordering}
 use Rattle.std.specs.Ordering.{eq_by_cmp, is_eq}
 use Rattle.std.specs.Cmp.{IsTotalOrder, Equal-is, tied_itself}
@@ -13,10 +14,6 @@ use Rattle.tracking.specs.Tables.{Tracks}
 
 abbrev pub firsts_of : {K V : Type 0} → List (K × V) → List K
 firsts_of ps = map (λ p. p.0) ps
-
-value : {V : Type 0} → V → Option V → V
-value v (Some w) = w
-value v None = v
 
 module _ {V : Type 0} where
   or_other_none : (o : Option V) → option_or o None ≡ o
@@ -96,11 +93,10 @@ module _ {X K V : Type 0} (f : X → K) (g : X → V) where
 
 module _ {X K V : Type 0} {R : K → K → Ordering} (f : X → K) (g : X → V) where
   pub lookup_in : IsAntisymmetric R → (xs : List X) (q : K) (v : V) → find R q (map (λ x. (f x, g x)) xs) ≡ Some v → (x : X) × In x xs × (f x ≡ q) × (g x ≡ v)
-  unfolding value
   lookup_in same [] q v h = absurd (true≢false (sym (ap is_some h)))
   lookup_in same (x ∷ xs) q v h =
       elim (eq_by_cmp R q (f x)) as (λ b. eq_by_cmp R q (f x) ≡ b → cond b (Some (g x)) (find R q (map (λ x. (f x, g x)) xs)) ≡ Some v → (y : X) × In y (x ∷ xs) × (f y ≡ q) × (g y ≡ v)) [
-        | true ↦ λ t e. (x, inl refl, sym (same q (f x) ((Equal-is _).0 t)), ap (value (g x)) e)
+        | true ↦ λ t e. (x, inl refl, sym (same q (f x) ((Equal-is _).0 t)), same_Some _ _ e)
         | false ↦ λ t e. (let k = lookup_in same xs q v e in (k.0, inr k.1, k.2, k.3))
       ] refl h
 

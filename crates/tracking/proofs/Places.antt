@@ -192,6 +192,12 @@ module _ (fs : List Ring) (consistent : Consistent fs) where
         let z : r - 0 ≡ r = omega arith in
         (omega (arith, k.1), sym (ap (λ n. end_keys (edge_at fs n)) z) ∙ k.2)
 
+    pub keys_in_order : (i : ℕ) → i < length (entries (map_of edge_cmp t)) → (get_or (entries (map_of edge_cmp t)) i ((0, 0), 0)).0 ≡ end_keys (edge_at fs (get_or (entries (map_of edge_cmp t)) i ((0, 0), 0)).1)
+    unfolding m entry
+    keys_in_order i l =
+        let within : i < len m = rw (len-entries m) l in
+        sym (in_order i within).1 ∙ ap (λ n. end_keys (edge_at fs n)) (value_is i within)
+
     whole : length (values m) ≡ len m
     whole = length-map (entries m) (λ (e : (ℕ × ℕ) × ℕ). e.1) ∙ sym (len-entries m)
 

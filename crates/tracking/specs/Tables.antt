@@ -4,7 +4,7 @@ use Rattle.std.specs.declared.cmp.Ordering.{Ordering}
 use Rattle.std.specs.Ordering.{nat_cmp, int_cmp, ordering_then}
 use Rattle.std.specs.Cmp.Lexicographic.{slice_cmp}
 use Rattle.std.specs.FinMap.{from_entries}
-use Rattle.algebra.specs.Vector.{V3, vector}
+use Rattle.algebra.specs.Vector.{vector, coordinates}
 use Rattle.faces.specs.Held.{stored_corners, rings, Room}
 use Rattle.faces.specs.declared.held.Faces.{Faces}
 use Rattle.solid.specs.Faces.{Edge, all_edges}
@@ -20,10 +20,6 @@ position_cmp = slice_cmp int_cmp
 -- the order of directed edges by the keys of their ends
 abbrev pub edge_cmp : ℕ × ℕ → ℕ × ℕ → Ordering
 edge_cmp p q = ordering_then (nat_cmp p.0 q.0) (nat_cmp p.1 q.1)
-
--- three coordinates in a list, as a position has them
-abbrev pub coordinates : V3 → List ℤ
-coordinates v = v.x ∷ v.y ∷ v.z ∷ []
 
 -- the keys of the ends of a directed edge
 abbrev pub end_keys : Edge → ℕ × ℕ

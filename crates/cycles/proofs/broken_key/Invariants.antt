@@ -4,5 +4,5 @@ use Rattle.marks.specs.Bits.{members, Held}
 use Rattle.solid.proofs.Cycling.{Rounds}
 use Rattle.cycles.proofs.broken_key.Given as goal
 
-abbrev pub invariant-loop-place : goal.invariant-loop-place
-invariant-loop-place l = Rounds (faces_in l.closed) (places_by_key l.closed.index.now) (Held (members l.marks.words)) l.place-index l.last
+abbrev pub invariant-loop-key : goal.invariant-loop-key
+invariant-loop-key l = Rounds (faces_in l.closed) (places_by_key l.closed.index.now) (Held (members l.marks.words)) l.key-index l.last

@@ -3,7 +3,7 @@ use Rattle.index.specs.Meaning.{faces_of}
 use Rattle.index.proofs.Meanings.{consistent}
 use Rattle.marks.specs.Bits.{members, ones_of, Held}
 use Rattle.marks.proofs.Sets.{held_set, set_held, set_here, ones_length, ones_set}
-use Rattle.marks.proofs.Words.{length_members}
+use Rattle.marks.proofs.Words.{members_long}
 use Rattle.solid.proofs.Cycling.{going_none, going_more, going_done}
 use Rattle.cycles.proofs.go_round.Goals as goal
 use Rattle.cycles.proofs.go_round.Goals.{After-has}
@@ -17,11 +17,8 @@ has-requires c = omega (arith, c.loop-marks.invariant.0, (consistent c.args.clos
 pub mark-requires : goal.mark-requires
 mark-requires c = omega (arith, c.loop-marks.invariant.0, (consistent c.args.closed.now.index.now).limits.edges)
 
-pub onward-at-requires : goal.onward-at-requires
-onward-at-requires c = c.loop-marks.invariant.0
-
 long : (c : After-has) → length (members c.loop-marks.marks.words) ≡ 64 * 48
-long c = length_members c.loop-marks.marks.words ∙ ap (λ n. 64 * n) c.loop-marks.marks.long
+long c = members_long 48 c.loop-marks.marks
 
 fits : (c : After-has) → c.loop-marks.at < length (members c.loop-marks.marks.words)
 fits c = omega (arith, c.loop-marks.invariant.0, (consistent c.args.closed.now.index.now).limits.edges, long c)
@@ -32,7 +29,7 @@ loop-marks-smaller c =
     let xs = members c.loop-marks.marks.words in
     let more = ap ones_of c.mark.ensures ∙ ones_set xs c.loop-marks.at (fits w) (sym c.has.ensures ∙ c.loop-marks-test.true) in
     let most = ones_length (members c.mark.new.self.words) in
-    let total = length_members c.mark.new.self.words ∙ ap (λ n. 64 * n) c.mark.new.self.long in
+    let total = members_long 48 c.mark.new.self in
     omega (arith, more, most, total)
 
 pub loop-marks-preserved : goal.loop-marks-preserved

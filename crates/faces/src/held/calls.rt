@@ -1,4 +1,4 @@
-// The calls on a list of faces.
+// The calls on a list of faces. A place and a face are numbers, as in the index above, which says why.
 ghost use Rattle.std.specs.Prelude.{◌≡◌, ℕ, suc, ◌+◌, ◌<◌, ◌≤◌, [], length, IfOk};
 ghost use Rattle.faces.specs.Held.{stored_corners, stored_rings, stored_key, rings, Room, Pushed};
 ghost use Rattle.solid.specs.Places.{first_place, Home};

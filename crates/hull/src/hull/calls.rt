@@ -46,7 +46,9 @@ impl Hull {
         let height = dot(wide(ring.corners[0].position), ring.normal);
         self.index.put(ring);
         self.open_edges = self.open_edges + ring.corners.len() - 2 * reverses;
+        // It fits, as is proved; try_from would ask what to do where it did not.
         self.volume += height as i64;
+        // Bound first, as in the sum of D.
         let sum = plus(self.edge_sum, ring.normal);
         self.edge_sum = sum;
     }

@@ -19,6 +19,7 @@ pub(super) fn add_edges(table: &mut Table<(u32, u32), usize>, first: usize, ring
     ensures { Grows edge_cmp table.old (edge_pairs first (edges_of (ring_of ring.now.corners.now))) table.new }
 {
     for (i, (a, b)) in edges(ring.corners).enumerate() {
+        // Test 18 found room.
         let _ = table.insert((a.key, b.key), first + i);
     }
 }

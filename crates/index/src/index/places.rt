@@ -1,11 +1,12 @@
 // The directed edges by their places, as they were entered: their keys, reverses and neighbours. The crates that certify walk over these.
-// Places and faces are numbers, and each call asks that there is such a one: the table, a span and a set of marks have numbers, so a type for them
-// would be made of one with that same requirement, at each of them, and would have to say of which index it is.
-ghost use Rattle.std.specs.Prelude.{◌≡◌, suc, ◌<◌, map, length, MatchOption};
+// A place is a number, and each call asks that it is one of the index: no plainer as a type of its own, since the tables, spans and sets of marks have
+// numbers, from which it would be made with the same requirement, and its contracts would also have to say of which index it is. So is a face.
+ghost use Rattle.std.specs.Prelude.{◌≡◌, ℕ, suc, ◌<◌, map, length, MatchOption, slice_index_or};
 ghost use Rattle.index.specs.Meaning.{faces_of, places_by_key};
 ghost use Rattle.solid.specs.Faces.{flip, all_edges};
 ghost use Rattle.solid.specs.Lists.{In};
 ghost use Rattle.solid.specs.Places.{edge_at, key_at, first_place, Twin, Follows};
+ghost use Rattle.tracking.specs.Tables.{end_keys};
 
 use crate::index::Index;
 use ring::edges::following;
@@ -50,7 +51,8 @@ impl Index {
 
     // The edges by the keys of their ends, in the rising order of these, each with its place.
     pub fn edges_by_key(&self) -> &[((u32, u32), usize)]
-        ensures { map (λ e. e.1) result.now ≡ places_by_key self.now }
+        ensures places { map (λ e. e.1) result.now ≡ places_by_key self.now }
+        ensures keys { (i : ℕ) → i < length result.now → (slice_index_or result.now i ((0, 0), 0)).0 ≡ end_keys (edge_at (faces_of self.now) (slice_index_or result.now i ((0, 0), 0)).1) }
     {
         self.edges.entries()
     }

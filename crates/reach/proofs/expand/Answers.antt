@@ -1,32 +1,13 @@
-use Rattle.std.proofs.Common.{◌≡◌, ℕ, suc, ◌<◌, length, sym, refl, ap, ◌∙◌, subst, inl, inr, arith}
+use Rattle.std.proofs.Common.{◌≡◌, sym, ◌∙◌, subst, inl, inr, arith}
 use Rattle.std.proofs.lemmas.Bool.{cases_lt}
-use Rattle.std.specs.declared.ops.Range.{Range}
-use Rattle.index.specs.Meaning.{faces_of}
 use Rattle.index.specs.Closed.{faces_in}
-use Rattle.index.specs.declared.index.Index.{Index}
 use Rattle.index.proofs.Meanings.{consistent}
-use Rattle.solid.specs.Places.{first_place, Home, Across}
+use Rattle.solid.specs.Places.{Home, Across}
 use Rattle.solid.proofs.Places.{home_within}
 use Rattle.solid.proofs.Reaching.{across_one}
 use Rattle.reach.specs.Sets.{Has}
 use Rattle.reach.proofs.expand.Goals as goal
 use Rattle.reach.proofs.expand.Goals.{In-Some, After-across}
-
-pub span-place-items-requires : goal.span-place-items-requires
-span-place-items-requires c = subst (λ (x : Index). c.args.face < length (faces_of x)) (sym c.index.ensures) c.requires
-
-pub loop-place-init : goal.loop-place-init
-loop-place-init c =
-    let face = c.args.face in
-    let items = c.into_iter-place-iterator.ensures.into_iter_gives in
-    let start = ap (λ (r : Range ℕ). r.start) items ∙ c.span-place-items.ensures.start ∙ ap (λ (x : Index). first_place (faces_of x) face) c.index.ensures in
-    let end = ap (λ (r : Range ℕ). r.end) items ∙ c.span-place-items.ensures.end ∙ ap (λ (x : Index). first_place (faces_of x) (suc face)) c.index.ensures in (
-      omega (arith, start),
-      end,
-      record { keeps = λ g h. h; stays = λ g w. w; met = λ g w. inl w; grows = omega arith; evenly = refl },
-      λ p g h l a. absurd (omega (arith, h.from, l, start)),
-      λ g h. inl h,
-    )
 
 -- the place is one of the face
 home : (c : In-Some) → Home (faces_in c.args.closed.now) c.in-Some.place c.args.face

@@ -6,7 +6,7 @@ use Rattle.index.proofs.Meanings.{consistent}
 use Rattle.marks.specs.Bits.{members, ones_of, Held}
 use Rattle.marks.specs.declared.Marks.{Marks}
 use Rattle.marks.proofs.Sets.{ones_full, ones_all, ones_length}
-use Rattle.marks.proofs.Words.{length_members}
+use Rattle.marks.proofs.Words.{members_long}
 use Rattle.solid.specs.Faces.{Ring}
 use Rattle.solid.specs.Lists.{In}
 use Rattle.solid.specs.Soundness.{FromFirst}
@@ -23,11 +23,6 @@ none_to_reach (r ∷ rs) e = absurd (omega arith)
 
 count_is : (x y : Index) (n : ℕ) → n ≡ length (faces_of x) → x ≡ y → n ≡ length (faces_of y)
 count_is x y n e same = e ∙ ap (λ (z : Index). length (faces_of z)) same
-
-pub returns-then-faces-eq0 : goal.returns-then-faces-eq0
-returns-then-faces-eq0 c =
-    let total = count_is _ _ _ c.face_count-faces.ensures c.index.ensures in
-    (λ _. none_to_reach (faces_in c.args.closed.now) (sym total ∙ c.if-faces-eq0.true), λ _. refl)
 
 pub loop-face-init : goal.loop-face-init
 loop-face-init c =
@@ -50,7 +45,7 @@ expand-requires c =
     (inv.0.walk c.in-Some.face (inv.1 c.in-Some.face was)).0
 
 few_bits : (r : Reached) → size_of r ≤ 512
-few_bits r = omega (arith, ones_length (members r.marks.words), length_members r.marks.words, r.marks.long)
+few_bits r = omega (arith, ones_length (members r.marks.words), members_long 8 r.marks)
 
 pub loop-face-smaller : goal.loop-face-smaller
 loop-face-smaller c =

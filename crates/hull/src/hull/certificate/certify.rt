@@ -2,6 +2,7 @@
 ghost use Rattle.hull.specs.Certificates.{verdict_of};
 ghost use Rattle.hull.specs.Meaning.{faces_of};
 ghost use Rattle.hull.specs.Promise.{Promise};
+ghost use Rattle.index.specs.Closed.{ClosedOr};
 ghost use Rattle.solid.specs.Certifying.{CertifySays};
 ghost use Rattle.solid.specs.Roll.{certify as certifying};
 
@@ -9,6 +10,7 @@ use crate::hull::Hull;
 use crate::hull::certificate::Certificate;
 use cycles::broken_key;
 use fault::shape::ShapeFault;
+use index::index::closed::ClosedIndex;
 use reach::is_connected;
 
 impl Hull {
@@ -19,11 +21,21 @@ impl Hull {
         self.verdict()
     }
 
+    // The index as one that is closed, or the fault that names an open edge. An open edge is looked for only where one is counted.
+    fn closed(&self) -> Result<ClosedIndex<'_>, ShapeFault>
+        ensures { ClosedOr self.now.index result }
+    {
+        if self.open_edges == 0 {
+            return Ok(ClosedIndex::new(&self.index));
+        }
+        self.index.closed()
+    }
+
     // The tests in order.
     fn verdict(&self) -> Result<Certificate, ShapeFault>
         ensures { CertifySays (faces_of self.now) (verdict_of result) }
     {
-        let closed = self.index.closed()?;
+        let closed = self.closed()?;
         if let Some(key) = broken_key(&closed) {
             return Err(ShapeFault::KeyCycle { key });
         }

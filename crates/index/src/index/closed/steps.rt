@@ -1,8 +1,10 @@
 // Looking for an open edge, and the steps where there is none.
 ghost use Rattle.std.specs.Prelude.{◌≡◌, ◌<◌, length};
 ghost use Rattle.index.specs.Closed.{ClosedOr, faces_in};
+ghost use Rattle.index.specs.Meaning.{faces_of};
 ghost use Rattle.solid.specs.Faces.{all_edges};
-ghost use Rattle.solid.specs.Places.{Onward, Across};
+ghost use Rattle.solid.specs.Places.{Twin, Onward, Across};
+ghost use Rattle.solid.specs.Soundness.{Closed};
 
 use crate::index::Index;
 use crate::index::closed::ClosedIndex;
@@ -13,6 +15,7 @@ impl Index {
     pub fn closed(&self) -> Result<ClosedIndex<'_>, ShapeFault>
         ensures { ClosedOr self.now result }
     {
+        // Places are numbers from 0, so there is nothing else to go over.
         for place in 0..self.edge_count() {
             if self.twin(place).is_none() {
                 return Err(ShapeFault::OpenEdge {
@@ -26,6 +29,14 @@ impl Index {
 }
 
 impl<'a> ClosedIndex<'a> {
+    // An index in which no edge is open, as the caller knows.
+    pub fn new(index: &'a Index) -> ClosedIndex<'a>
+        requires { Closed (faces_of index.now) }
+        ensures { result.index.now ≡ index.now }
+    {
+        ClosedIndex { index }
+    }
+
     // The index itself.
     pub fn index(&self) -> &'a Index
         ensures { result.now ≡ self.now.index.now }
@@ -33,15 +44,23 @@ impl<'a> ClosedIndex<'a> {
         self.index
     }
 
+    // The place of the reverse of the edge at a place.
+    fn reverse(&self, place: usize) -> usize
+        requires { place < length (all_edges (faces_in self.now)) }
+        ensures { Twin (faces_in self.now) place result }
+    {
+        match self.index.twin(place) {
+            Some(reverse) => reverse,
+            None => unreachable!(),
+        }
+    }
+
     // One step round the start of the edge at a place.
     pub fn onward(&self, place: usize) -> usize
         requires { place < length (all_edges (faces_in self.now)) }
         ensures { Onward (faces_in self.now) place result }
     {
-        match self.index.twin(place) {
-            Some(reverse) => self.index.next(reverse),
-            None => unreachable!(),
-        }
+        self.index.next(self.reverse(place))
     }
 
     // The face across the edge at a place.
@@ -49,9 +68,6 @@ impl<'a> ClosedIndex<'a> {
         requires { place < length (all_edges (faces_in self.now)) }
         ensures { Across (faces_in self.now) place result }
     {
-        match self.index.twin(place) {
-            Some(reverse) => self.index.faces.home(reverse),
-            None => unreachable!(),
-        }
+        self.index.faces.home(self.reverse(place))
     }
 }

@@ -1,16 +1,15 @@
 -- Nothing overflows, and the counts are those of the faces with this one.
-use Rattle.std.proofs.Common.{◌≡◌, ◌+◌, ◌*◌, ◌^◌, ◌<◌, ◌≤◌, [], ◌∷◌, ◌++◌, length, ◌+ℤ◌, nat_abs, sym, ap, ◌∙◌, subst, ap₂, arith, w64, to_z, of_z, rules}
+use Rattle.std.proofs.Common.{◌≡◌, ◌+◌, ◌*◌, ◌^◌, ◌≤◌, [], ◌∷◌, ◌++◌, length, ◌+ℤ◌, nat_abs, sym, ap, ◌∙◌, subst, ap₂, arith, w64, to_z, of_z}
 use Rattle.std.specs.Int.{w128}
 use Rattle.std.proofs.lemmas.List.{length-map}
 use Rattle.algebra.specs.Vector.{Near, Large, vector, ◌+ᵛ◌, dot}
-use Rattle.algebra.proofs.Bounds.{within_more}
 use Rattle.algebra.proofs.Machine.{Bounded, ◌∷ᵇ◌, done, fits, stored, read_back, abs_fits}
 use Rattle.algebra.proofs.Ring.{var, ◌⊕◌}
 use Rattle.solid.specs.Corners.{corner_of, ring_of}
 use Rattle.solid.specs.Faces.{Edge, flip, edges, all_edges, same_edge, is_open, open_edges_of, start, D}
 use Rattle.solid.specs.Lists.{has}
 use Rattle.solid.specs.Rules.{Tidy, Enterable}
-use Rattle.solid.proofs.Answered.{enter_taken, taken_allowed}
+use Rattle.solid.proofs.Answered.{enter_taken}
 use Rattle.solid.proofs.Growth.{height_near, kept_near, edge_sum_large}
 use Rattle.solid.proofs.Members.{edges_length}
 use Rattle.solid.proofs.Opens.{kept_short}
@@ -29,19 +28,10 @@ may c = enter_taken (faces_of c.args.self.now) (ring_of c.args.ring.now.corners.
 tidy : (c : Start) → Tidy (ring_of c.args.ring.now.corners.now)
 tidy c = (may c).proper.tidy
 
-pub reverses-reverses-requires : goal.reverses-reverses-requires
-reverses-reverses-requires c = taken_allowed (faces_of c.args.self.now) (ring_of c.args.ring.now.corners.now) c.requires
-
-pub bounds-ring-0 : goal.bounds-ring-0
-bounds-ring-0 c = let h : 0 < length c.args.ring.now.corners.now = omega (arith, (tidy (goal.at.bounds-ring-0 c).Start).sized.0, length-map c.args.ring.now.corners.now corner_of) in search rules
-
 pub wide-requires : goal.wide-requires
 wide-requires c =
     let t = tidy (goal.at.wide-requires c).Start in
     inside_at c.args.ring.now.corners.now t 0 (omega (arith, t.sized.0, length-map c.args.ring.now.corners.now corner_of))
-
-pub dot-height-requires : goal.dot-height-requires
-dot-height-requires c = (within_more tt c.wide.ensures.small, c.args.ring.now.large)
 
 -- ---- the open edges
 few_opens : (c : Start) → c.args.self.now.open_edges ≤ 3072
@@ -111,6 +101,3 @@ invariant_of-self c =
           (rw (height_read (goal.at.invariant_of-self c).After-dot-height (tidy begun)) (stored w64 (bounded (goal.at.invariant_of-self c).After-dot-height (tidy begun)) (var 0 ⊕ var 1) tt) ∙ ap (λ m. h.volume +ℤ m) (height_is (goal.at.invariant_of-self c).After-dot-height))
           (c.plus-sum.ensures ∙ ap (λ v. vector h.edge_sum +ᵛ v) c.args.ring.now.is_normal) ∣₁;
     }
-
-pub returns : goal.returns
-returns c = c.put.ensures

@@ -1,5 +1,5 @@
 use Rattle.std.proofs.Common.{arith}
-use Rattle.tracking.proofs.Empty.{empty_kept, rings_none}
+use Rattle.tracking.proofs.Empty.{empty_kept}
 use Rattle.tracking.proofs.Props.{kept_out}
 use Rattle.index.proofs.index.Index.clear.Goals as goal
 
@@ -12,6 +12,3 @@ invariant_of-self c =
           (record { nothing = none.none.1; space = omega (arith, k.table_room.1, none.room.1) })
           (record { nothing = c.clear-3.ensures.map; space = omega (arith, k.table_room.2, c.clear-3.ensures.room) }) ∣₁;
     }
-
-pub returns : goal.returns
-returns c = rings_none c.clear.new.self c.clear.ensures.rings

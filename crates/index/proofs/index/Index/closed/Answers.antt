@@ -19,12 +19,6 @@ on_some : (A : Type 0) (B : ℕ → Type 0) (r : Option ℕ) → MatchOption r A
 on_some A B None a e = absurd (true≢false (sym e))
 on_some A B (Some n) b e = (n, b)
 
-pub twin-requires : goal.twin-requires
-twin-requires c = omega (arith, c.loop-place-test.true, c.edge_count-place-end.ensures)
-
-pub key-requires : goal.key-requires
-key-requires c = omega (arith, c.loop-place-test.true, c.edge_count-place-end.ensures)
-
 -- an edge without its reverse is open
 pub returns-then-is_none : goal.returns-then-is_none
 returns-then-is_none c =

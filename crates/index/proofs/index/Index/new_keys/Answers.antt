@@ -3,7 +3,6 @@ use Rattle.std.proofs.Common.{◌≡◌, ℕ, suc, ◌+◌, Bool, true, false, c
 use Rattle.std.proofs.lemmas.List.{take_all, length-map}
 use Rattle.std.proofs.lemmas.List.Sums.{length-filter, count_by-le-length}
 use Rattle.std.specs.List.{count_by}
-use Rattle.std.specs.Cmp.{nat_cmp_total}
 use Rattle.std.specs.FinMap.{get}
 use Rattle.std.specs.Ordering.{nat_cmp}
 use Rattle.solid.specs.Corners.{corner_of, ring_of}
@@ -15,8 +14,7 @@ use Rattle.table.specs.Seen.{map_of}
 use Rattle.index.specs.Meaning.{faces_of}
 use Rattle.tracking.proofs.Edges.{kept_alike}
 use Rattle.tracking.proofs.Keys.{found_key, kinds_all, key_count_more}
-use Rattle.tracking.proofs.Pairs.{tracked}
-use Rattle.tracking.proofs.Props.{kept_out}
+use Rattle.index.proofs.Meanings.{position_found}
 use Rattle.index.proofs.index.Index.new_keys.Goals as goal
 
 -- a test of keys keeps as many keys as corners
@@ -37,7 +35,7 @@ returns c =
     let ns : List ℕ = map (λ (c : Corner). c.key) (ring_of r) in
     let found : StoredCorner → Bool = λ s. not (is_some (get (map_of nat_cmp x.corners.positions) s.key)) in
     let counted : c.count.result ≡ count_by found r = search rules in
-    let same = kept_alike found (λ s. not (has eqb s.key ks)) r (λ s i. ap (λ o. not (is_some o)) (tracked nat_cmp_total x.corners.positions _ (kept_out x.kept).positions_held s.key) ∙ ap not (found_key x.faces s.key)) in
+    let same = kept_alike found (λ s. not (has eqb s.key ks)) r (λ s i. ap (λ o. not (is_some o)) (position_found x s.key) ∙ ap not (found_key x.faces s.key)) in
     let new = counted ∙ sym (length-filter found r) ∙ same ∙ by_keys (λ n. not (has eqb n ks)) r in
     let all : take (length ns) ns ≡ ns = take_all (length ns) ns (omega arith) in (
       key_count_more (faces_of x) (ring_of r)

@@ -1,15 +1,12 @@
 use Rattle.std.proofs.Common.{◌+◌, sym, subst, arith}
 use Rattle.solid.specs.Places.{Follows}
-use Rattle.tracking.proofs.Keys.{edge_total, face_total}
+use Rattle.tracking.proofs.Keys.{edge_total}
 use Rattle.tracking.proofs.Places.{follows_from}
 use Rattle.index.specs.Meaning.{faces_of}
 use Rattle.index.proofs.index.Index.next.Goals as goal
 
 pub home-requires : goal.home-requires
 home-requires c = omega (arith, c.requires, edge_total c.args.self.now.faces)
-
-pub span-start-requires : goal.span-start-requires
-span-start-requires c = omega (arith, c.home.ensures.face, face_total c.args.self.now.faces)
 
 pub returns : goal.returns
 returns c =

@@ -10,9 +10,7 @@ use Rattle.ring.proofs.Turns.{edge_turn, edge_end}
 use Rattle.index.specs.Meaning.{faces_of}
 use Rattle.tracking.specs.Tables.{edge_cmp, end_keys, edge_pairs}
 use Rattle.tracking.proofs.Edges.{found_edge, first_repeated, fresh_from, is_there, not_there}
-use Rattle.tracking.proofs.Orders.{edge_cmp_total}
-use Rattle.tracking.proofs.Pairs.{tracked}
-use Rattle.tracking.proofs.Props.{kept_out}
+use Rattle.index.proofs.Meanings.{edge_found}
 use Rattle.index.proofs.index.Index.repeated.Goals as goal
 use Rattle.index.proofs.index.Index.repeated.Goals.{In-Some, After-is_some}
 
@@ -27,7 +25,7 @@ tested c t =
     let r = c.args.ring.now in
     let n = length c.loop-a.yielded in
     c.is_some.ensures
-    ∙ ap is_some (c.find.ensures ∙ tracked edge_cmp_total x.edges _ (kept_out x.kept).edges_held _ ∙ ap (λ e. find edge_cmp (end_keys e) (edge_pairs 0 (all_edges fs))) t.1)
+    ∙ ap is_some (c.find.ensures ∙ edge_found x _ ∙ ap (λ e. find edge_cmp (end_keys e) (edge_pairs 0 (all_edges fs))) t.1)
     ∙ found_edge fs (ring_of r) c.requires (edge r n) (edge_in r n t.0)
 
 pub returns-then-is_some : goal.returns-then-is_some

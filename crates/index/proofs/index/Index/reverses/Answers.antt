@@ -11,9 +11,7 @@ use Rattle.index.specs.Meaning.{faces_of}
 use Rattle.table.specs.Seen.{map_of}
 use Rattle.tracking.specs.Tables.{edge_cmp, end_keys}
 use Rattle.tracking.proofs.Edges.{found_reverse, kept_alike}
-use Rattle.tracking.proofs.Orders.{edge_cmp_total}
-use Rattle.tracking.proofs.Pairs.{tracked}
-use Rattle.tracking.proofs.Props.{kept_out}
+use Rattle.index.proofs.Meanings.{edge_found}
 use Rattle.index.proofs.index.Index.reverses.Goals as goal
 
 pub count-requires-clause-fits : goal.count-requires-clause-fits
@@ -26,7 +24,6 @@ returns c =
     let x = c.args.self.now in
     let fs = faces_of x in
     let es = edges (ring_of c.args.ring.now) in
-    let kept = (kept_out x.kept).edges_held in
     let found : Edge → Bool = λ e. is_some (get (map_of edge_cmp x.edges) (end_keys (flip e))) in
     count_from_yields_List c.filter.result c.count.result c.count.ensures.ran (YieldsList-from_filter _ found (YieldsList-at c.filter.ensures.source (road c.args.ring.now c.edges.ensures)) c.filter.ensures.closure (λ y r q k. search (rules, tests)))
-    ∙ kept_alike found (λ e. has same_edge (flip e) (all_edges fs)) es (λ e i. ap is_some (tracked edge_cmp_total x.edges _ kept (end_keys (flip e))) ∙ found_reverse fs (ring_of c.args.ring.now) c.requires e i)
+    ∙ kept_alike found (λ e. has same_edge (flip e) (all_edges fs)) es (λ e i. ap is_some (edge_found x (end_keys (flip e))) ∙ found_reverse fs (ring_of c.args.ring.now) c.requires e i)

@@ -15,9 +15,6 @@ returns-then-not-differs c = (
   λ apart. absurd (not_from_Decides c.differs.result c.differs.ensures c.if-not-differs.true (apart _ (corner_in c.args.before.now c.loop-b.b-index c.loop-b-test.true))),
 )
 
-pub loop-b-init : goal.loop-b-init
-loop-b-init c d i = absurd i
-
 pub loop-b-preserved : goal.loop-b-preserved
 loop-b-preserved c = apart_more c.args.before.now c.loop-b.b-index (corner_of c.args.c) c.loop-b-test.true c.loop-b.invariant (c.differs.ensures.0 c.if-not-differs.false)
 

@@ -1,13 +1,14 @@
 use Rattle.std.proofs.Common.{◌≡◌, ℕ, ◌+◌, ◌<◌, List, [], ◌∷◌, ◌++◌, length, get_or, take, sym, ap, ap₂, ◌∙◌, subst, arith, inl}
 use Rattle.std.proofs.lemmas.List.{take_all, length_push}
+use Rattle.solid.specs.Places.{no_edge}
 use Rattle.solid.specs.Corners.{ring_of}
 use Rattle.solid.specs.Faces.{Edge, edges}
 use Rattle.ring.specs.Places.{edge, edge_of}
-use Rattle.ring.proofs.Places.{edges_at, edges_length, no_edge, few_at}
+use Rattle.ring.proofs.Places.{edges_at, edges_length, few_at}
 use Rattle.ring.proofs.Turns.{numbered_turn, numbered_end}
 use Rattle.tracking.specs.Growth.{Grows}
 use Rattle.tracking.specs.Tables.{edge_cmp, end_keys, edge_pairs}
-use Rattle.tracking.proofs.Grows.{grows_none, grows_one, grows_on, edge_pairs_more}
+use Rattle.tracking.proofs.Grows.{grows_one, grows_on, edge_pairs_more}
 use Rattle.tracking.proofs.Orders.{edge_cmp_total, edge_cmp_tells}
 use Rattle.index.proofs.index.growth.add_edges.Goals as goal
 use Rattle.index.proofs.index.growth.add_edges.Goals.{In-Some}
@@ -18,9 +19,6 @@ loop-i-init-derived c =
     let from : c.into_iter-i-iterator.result.iter ≡ edges (ring_of r) = cc in
     let zero : c.into_iter-i-iterator.result.count ≡ 0 = cc in
     ((tt, tt, inl (omega (arith, zero, ap length from, edges_length r, few_at r c.args.ring.now.tidy))), tt)
-
-pub loop-i-init : goal.loop-i-init
-loop-i-init c = grows_none edge_cmp_total edge_cmp_tells c.args.table.now
 
 -- the edge of a turn, with its number
 turn : (c : In-Some) → (c.in-Some.i ≡ length c.loop-i.yielded) × (c.in-Some.i < length c.args.ring.now.corners.now) × (edge_of (c.in-Some.a, c.in-Some.b) ≡ edge c.args.ring.now.corners.now c.in-Some.i)

@@ -1,7 +1,7 @@
-use Rattle.std.proofs.Common.{◌≡◌, ℕ, ◌+◌, ◌*◌, ◌<◌, Bool, List, [], ◌∷◌, length, sym, refl, ap, ◌∙◌, subst, inl, inr, arith, lit<}
+use Rattle.std.proofs.Common.{◌≡◌, ℕ, ◌+◌, ◌<◌, Bool, List, [], ◌∷◌, length, sym, refl, ap, ◌∙◌, subst, inl, inr, arith, lit<}
 use Rattle.marks.specs.Bits.{members, ones_of, Held}
 use Rattle.marks.proofs.Sets.{held_set, set_held, set_here, ones_length, ones_set}
-use Rattle.marks.proofs.Words.{length_members}
+use Rattle.marks.proofs.Words.{members_long}
 use Rattle.solid.specs.Lists.{In}
 use Rattle.solid.proofs.Members.{in_append, in_left, in_right}
 use Rattle.reach.specs.declared.reached.Reached.{Reached}
@@ -9,7 +9,7 @@ use Rattle.reach.proofs.reached.Reached.add.Goals as goal
 use Rattle.reach.proofs.reached.Reached.add.Goals.{After-mark}
 
 bits_long : (r : Reached) → length (members r.marks.words) ≡ 512
-bits_long r = length_members r.marks.words ∙ ap (λ n. 64 * n) r.marks.long
+bits_long r = members_long 8 r.marks
 
 within : (r : Reached) (face : ℕ) → face < 512 → face < length (members r.marks.words)
 within r face l = omega (arith, l, bits_long r)
@@ -20,7 +20,7 @@ one_more c = ap ones_of c.mark.ensures ∙ ones_set (members c.args.self.now.mar
 pub push-requires : goal.push-requires
 push-requires c =
     let most = ones_length (members c.mark.new.self.words) in
-    let long = length_members c.mark.new.self.words ∙ ap (λ n. 64 * n) c.mark.new.self.long in
+    let long = members_long 8 c.mark.new.self in
     (lit< tt, omega (arith, c.args.self.now.few, one_more (goal.at.push-requires c).After-mark, most, long))
 
 pub invariant_of-self : goal.invariant_of-self

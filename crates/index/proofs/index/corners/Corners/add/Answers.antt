@@ -2,7 +2,7 @@ use Rattle.std.proofs.Common.{◌≡◌, length, rules}
 use Rattle.std.specs.Cmp.{nat_cmp_total}
 use Rattle.std.specs.FinMap.{nat_cmp-IsAntisymmetric}
 use Rattle.tracking.proofs.Orders.{position_cmp_total, position_cmp_tells}
-use Rattle.tracking.proofs.Finds.{coordinates_of}
+use Rattle.algebra.proofs.Arrays.{coordinates_of}
 use Rattle.tracking.proofs.Grows.{grows_one}
 use Rattle.index.proofs.index.corners.Corners.add.Goals as goal
 

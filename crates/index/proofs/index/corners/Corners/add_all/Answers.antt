@@ -3,17 +3,14 @@ use Rattle.std.proofs.lemmas.List.{take_all}
 use Rattle.std.specs.Cmp.{nat_cmp_total}
 use Rattle.std.specs.FinMap.{nat_cmp-IsAntisymmetric}
 use Rattle.std.specs.Ordering.{nat_cmp}
-use Rattle.algebra.specs.Vector.{vector}
+use Rattle.algebra.specs.Vector.{vector, coordinates}
 use Rattle.ring.specs.Places.{blank}
 use Rattle.solid.specs.declared.Corner.{Corner as StoredCorner}
 use Rattle.tracking.specs.Growth.{Grows}
-use Rattle.tracking.specs.Tables.{position_cmp, coordinates, key_pairs, position_pairs}
-use Rattle.tracking.proofs.Grows.{grows_none, grows_on, pairs_more}
+use Rattle.tracking.specs.Tables.{position_cmp, key_pairs, position_pairs}
+use Rattle.tracking.proofs.Grows.{grows_on, pairs_more}
 use Rattle.tracking.proofs.Orders.{position_cmp_total, position_cmp_tells}
 use Rattle.index.proofs.index.corners.Corners.add_all.Goals as goal
-
-pub loop-c-init : goal.loop-c-init
-loop-c-init c = (grows_none nat_cmp_total nat_cmp-IsAntisymmetric _, grows_none position_cmp_total position_cmp_tells _)
 
 pub loop-c-preserved : goal.loop-c-preserved
 loop-c-preserved c =
