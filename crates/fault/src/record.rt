@@ -1,5 +1,4 @@
 // Faults of the records that describe a solid, each with the number of the record.
-// The format of faults asks for the attribute 0 where there is none, so it is a number here and no Option.
 ghost use Rattle.fault.specs.Numbers.{record_number};
 ghost use Rattle.fault.specs.declared.record.RecordFault.TheVariants.{Text};
 ghost use Rattle.std.specs.Prelude.{◌≡◌};
@@ -22,7 +21,7 @@ pub enum RecordFault {
     Count { record: u32 },
     // an attribute's kind, or the length of its list, is not as tabled
     Kind { record: u32, attribute: u32 },
-    // an attribute breaks the rule of its value
+    // an attribute breaks the rule of its value; the format of faults has 0 where the source has no attributes, so it is a number and no Option
     Value { record: u32, attribute: u32 },
     // a name stands twice in an attribute's list
     Twice { record: u32, attribute: u32 },

@@ -15,6 +15,7 @@ pub struct Hull {
     // how many edges are open
     open_edges: usize,
     volume: i64,
+    // an array of three, as a rule of the project asks
     edge_sum: [i64; 3],
     ghost counted: { ∥ Counted (faces_of index) open_edges volume edge_sum ∥₁ },
 }

@@ -2,6 +2,8 @@
 #![tactic(auto)]
 
 #[cfg(test)]
+mod certify;
+#[cfg(test)]
 mod corners;
 #[cfg(test)]
 mod edges;

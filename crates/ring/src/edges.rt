@@ -16,7 +16,8 @@ pub fn following(i: usize, k: usize) -> usize
     if i + 1 < k { i + 1 } else { 0 }
 }
 
-// The edges of a ring from a place on. A clause sees it as the list of these edges, which it could not with a `zip` of the corners and those after them.
+// The edges of a ring from a place on. A clause sees it as the list of these edges, which it could not with a `zip` of the corners and those after them;
+// so it counts the place itself.
 #[derive(Drop)]
 pub struct RingEdges<'a> {
     ring: &'a [Corner],

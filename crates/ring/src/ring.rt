@@ -15,14 +15,15 @@ use space::vector::{cross, difference, dot, plus, wide};
 #[derive(Clone, Copy)]
 pub struct Ring<'a> {
     pub corners: &'a [Corner],
-    // D of the ring, as `new` computes it
+    // D of the ring, as `new` computes it: an array of three, as a rule of the project asks
     pub normal: [i64; 3],
     pub ghost tidy: { Tidy (ring_of corners.now) } by { tidy_one (ring_of corners.now) },
     pub ghost is_normal: { vector normal ≡ D_of (ring_of corners.now) },
     pub ghost large: { Large (vector normal) },
 }
 
-// Whether two edges, which start at different corners, share no point but a corner that ends one and starts the other.
+// Whether two edges, which start at different corners, share no point but a corner that ends one and starts the other. A corner has any position, so that
+// these are in range is asked, as is what a tidy ring has of two of its edges.
 fn is_clear(e: (Corner, Corner), f: (Corner, Corner)) -> bool
     requires first { (Inside (vector e.0.position)) × (Inside (vector e.1.position)) }
     requires second { (Inside (vector f.0.position)) × (Inside (vector f.1.position)) }

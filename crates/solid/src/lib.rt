@@ -4,7 +4,7 @@
 
 ghost use Rattle.std.specs.Prelude.{◌≡◌};
 
-// A corner of a face: a key, and a position in hundredths of a millimetre.
+// A corner of a face: a key, and a position in hundredths of a millimetre, an array of three as a rule of the project asks.
 #[derive(Clone, Copy, Debug, PartialEq, Eq)]
 pub struct Corner {
     pub key: u32,

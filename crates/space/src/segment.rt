@@ -1,4 +1,5 @@
 // Segments between positions whose coordinates lie within ±50,000, and the tests of them: exact, with no rounding.
+// Vectors are arrays of three, whose bounds the calls ask for, as in `vector`.
 ghost use Rattle.algebra.specs.Vector.{vector, Inside, Small};
 ghost use Rattle.algebra.specs.Segments.{Meets, OnlyCorner, On, EndOn, Part, Shared, Crossing};
 ghost use Rattle.std.specs.Prelude.{◌≡◌, Decides};

@@ -5,8 +5,9 @@ use std::marker::Model;
 
 mod calls;
 
-// Values by keys, in rising order of the keys. A rule of the project takes all memory first: std's BTreeMap takes some at each new key. A
-// HashMap can reserve, but knows no order, and certifying goes over the edges in the order of their keys; so one kind of table serves all.
+// Values by keys, in rising order of the keys. A rule of the project takes all memory first: std's BTreeMap takes some at each new key. Of the
+// maps that can reserve, HashMap knows no order, and certifying goes over the edges in the order of their keys; the kit's IndexMap overwrites and grows
+// where this keeps and refuses. One kind of table serves all.
 #[derive(Drop)]
 pub struct Table<K: Ord, V> {
     entries: Vec<(K, V)>,

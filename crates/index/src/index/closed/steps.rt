@@ -15,13 +15,9 @@ impl Index {
     pub fn closed(&self) -> Result<ClosedIndex<'_>, ShapeFault>
         ensures { ClosedOr self.now result }
     {
-        // Places are numbers from 0, so there is nothing else to go over.
-        for place in 0..self.edge_count() {
-            if self.twin(place).is_none() {
-                return Err(ShapeFault::OpenEdge {
-                    from: self.key(place),
-                    to: self.key(self.next(place)),
-                });
+        for &((from, to), _) in self.edges_by_key() {
+            if self.edges.find(&(to, from)).is_none() {
+                return Err(ShapeFault::OpenEdge { from, to });
             }
         }
         Ok(ClosedIndex { index: self })
@@ -49,10 +45,7 @@ impl<'a> ClosedIndex<'a> {
         requires { place < length (all_edges (faces_in self.now)) }
         ensures { Twin (faces_in self.now) place result }
     {
-        match self.index.twin(place) {
-            Some(reverse) => reverse,
-            None => unreachable!(),
-        }
+        self.index.twin(place).unwrap()
     }
 
     // One step round the start of the edge at a place.
