@@ -16,6 +16,7 @@ use marks::Marks;
 type Places = Marks<48>;
 
 // Goes round the key at which the edge at a place begins, and marks each place on the way, until it comes to one that is marked.
+// A place is a number, as in the index, which says why.
 fn go_round(closed: &ClosedIndex<'_>, marks: &mut Places, start: usize)
     requires within { start < length (all_edges (faces_in closed.now)) }
     requires stays { NoStepLeaves (faces_in closed.now) (Held (members marks.old.words)) }

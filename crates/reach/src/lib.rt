@@ -11,7 +11,7 @@ use index::index::closed::ClosedIndex;
 
 mod reached;
 
-// Adds each face across an edge of this one.
+// Adds each face across an edge of this one. A face is a number, as in the index, which says why.
 fn expand(closed: &ClosedIndex<'_>, reached: &mut Reached, face: usize)
     requires { face < length (faces_in closed.now) }
     ensures { Expanded (faces_in closed.now) face reached.old reached.new }
