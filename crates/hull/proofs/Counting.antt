@@ -1,11 +1,11 @@
--- The counts of no faces, and of one face more.
-use Rattle.std.proofs.Common.{◌≡◌, ℕ, ◌+◌, ◌*◌, not, List, [], ◌∷◌, ◌++◌, length, ℤ, pos, ◌+ℤ◌, filter, sym, refl, ap, ◌∙◌, subst, arith}
+-- The counts of one face more.
+use Rattle.std.proofs.Common.{◌≡◌, ℕ, ◌+◌, ◌*◌, not, List, [], ◌∷◌, ◌++◌, length, ℤ, ◌+ℤ◌, filter, sym, refl, ap, ◌∙◌, subst, arith}
 use Rattle.std.proofs.lemmas.List.{length-map}
 use Rattle.algebra.specs.Vector.{vector, ◌+ᵛ◌, dot}
 use Rattle.tracking.specs.Growth.{Reverses}
 use Rattle.ring.proofs.Places.{no_reverse}
 use Rattle.solid.specs.Corners.{corner_of, ring_of}
-use Rattle.solid.specs.Faces.{Ring, Edge, flip, edges, all_edges, D, start, same_edge, open_edges_of, kept_volume_of, edge_sum_of}
+use Rattle.solid.specs.Faces.{Ring, Edge, flip, edges, all_edges, D, start, same_edge, open_edges_of}
 use Rattle.solid.specs.Lists.{Distinct, has}
 use Rattle.solid.specs.Rules.{Enterable, Consistent}
 use Rattle.solid.specs.declared.Corner.{Corner as StoredCorner}
@@ -15,9 +15,6 @@ use Rattle.solid.proofs.Opens.{open_more}
 use Rattle.solid.proofs.Rolls.{consistent_more}
 use Rattle.solid.proofs.Tests.{edge_tells}
 use Rattle.hull.specs.Counts.{Counted}
-
-pub counted_none : (fs : List Ring) → fs ≡ [] → Counted fs 0 (pos 0) (pos 0 ∷ pos 0 ∷ pos 0 ∷ [])
-counted_none fs e = record { open_count = sym (ap (λ (gs : List Ring). length (open_edges_of gs)) e); kept_volume = sym (ap kept_volume_of e); edge_sum = sym (ap edge_sum_of e) }
 
 module _ (fs : List Ring) (ring : List StoredCorner) (consistent : Consistent fs) (may : Enterable fs (ring_of ring)) (n : ℕ) (reverses : Reverses fs (ring_of ring) n) where
   once : Distinct (all_edges (fs ++ ring_of ring ∷ []))

@@ -1,9 +1,8 @@
 -- The law of histories, for each kind of call.
-use Rattle.std.proofs.Common.{◌≡◌, List, [], ◌∷◌, pos, ◌-ℤ◌, sym, refl, ap, ◌∙◌, subst, ap₂}
-use Rattle.algebra.specs.Vector.{V3, null, dot}
-use Rattle.algebra.proofs.Vectors.{dot-null}
+use Rattle.std.proofs.Common.{◌≡◌, ◌∷◌, ◌-ℤ◌, sym, refl, ◌∙◌, subst, ap₂}
+use Rattle.algebra.specs.Vector.{dot}
 use Rattle.solid.specs.Entering.{Entry, EnterSays, entered}
-use Rattle.solid.specs.Faces.{Ring, count}
+use Rattle.solid.specs.Faces.{Ring}
 use Rattle.solid.specs.Reversal.{Negates}
 use Rattle.solid.specs.Rules.{Consistent}
 use Rattle.solid.specs.Roll.{enter, ask, Rolls}
@@ -27,10 +26,6 @@ counts h q =
 
 pub asked : (h : Hull) → Law ask h h
 asked h = record { roll = λ calls r. (faces_of h, r, refl); counts = counts h }
-
--- no faces count 0 from every point
-pub counts_none : (fs : List Ring) → fs ≡ [] → (q : V3) → count q fs ≡ pos 0 -ℤ dot q null
-counts_none fs e q = ap (count q) e ∙ sym (ap (λ k. pos 0 -ℤ k) (dot-null q))
 
 pub entered_law : (h g : Hull) (ring : Ring) (x : Entry) → EnterSays (faces_of h) ring x → faces_of g ≡ entered (faces_of h) ring x → Law (enter ring) h g
 entered_law h g ring x says e = record {
