@@ -2,7 +2,7 @@
 #![tactic(auto)]
 
 use hull::hull::Hull;
-use samples::answers::Answers;
+use samples::answers::{Answers, Counts, Volume};
 use samples::plate::plate;
 use samples::tetrahedron::tetrahedron;
 use solid::Corner;
@@ -16,12 +16,19 @@ struct Demo<'a> {
 }
 
 impl<'a> Demo<'a> {
+    // Shows what the hull answers. Each line is a write of its own, so where one fails the lines before it are there.
+    fn show(&self) -> io::Result<()> {
+        let all = Answers::from(&self.hull);
+        println!(self.rt; "  {}", Counts(all))?;
+        println!(self.rt; "  {}", Volume(all))
+    }
+
     // Enters a ring, and shows what came of it.
     fn enter(&mut self, what: &str, ring: &[Corner]) -> io::Result<()> {
         println!(self.rt; "Enter {what}:")?;
         let before = Answers::from(&self.hull);
         match self.hull.enter(ring) {
-            Ok(()) => println!(self.rt; "  {}", Answers::from(&self.hull)),
+            Ok(()) => self.show(),
             Err(fault) => {
                 println!(self.rt; "  refused: {fault}")?;
                 if Answers::from(&self.hull) == before {
@@ -76,7 +83,7 @@ impl<'a> Demo<'a> {
             }
         }
         println!(self.rt; "Fifteen plates of 64 corners each are entered:")?;
-        println!(self.rt; "  {}", Answers::from(&self.hull))?;
+        self.show()?;
         let last = plate(self.rt.alloc(), 100 + 64 * 15, 1000 + 15, 64)?;
         self.enter("a sixteenth plate", last.as_slice())?;
         Ok(())
@@ -86,7 +93,7 @@ impl<'a> Demo<'a> {
     fn alone(&mut self) -> io::Result<()> {
         self.hull.clear();
         println!(self.rt; "Clear:")?;
-        println!(self.rt; "  {}", Answers::from(&self.hull))?;
+        self.show()?;
         let [_, b, c, d] = tetrahedron();
         self.enter("the face 2 3 4 alone", &[b, c, d])?;
         let [x, _, _] = self.hull.edge_sum();

@@ -30,6 +30,8 @@ Room f faces corners = (faces ≤ vec_capacity f.ends) × (corners ≤ vec_capac
 pub record Pushed (f : Faces) (ring : List StoredCorner) (g : Faces) (r : Result ⊤ NoRoom) : Type 0 where
   -- it refuses only where there is no room
   pub answer : (faces corners : ℕ) → Room f faces corners → length (stored_rings f) < faces → length (stored_corners f) + length ring ≤ corners → IsOk r
+  -- and takes in only where there is
+  pub fits : IsOk r → Room f (length (stored_rings f) + 1) (length (stored_corners f) + length ring)
   pub rings : stored_rings g ≡ cond (is_ok r) (stored_rings f ++ ring ∷ []) (stored_rings f)
   pub corners : stored_corners g ≡ cond (is_ok r) (stored_corners f ++ ring) (stored_corners f)
   pub room : (faces corners : ℕ) → Room f faces corners → Room g faces corners

@@ -55,6 +55,11 @@ impl From<(u32, TextFault)> for RecordFault {
 }
 
 impl fmt::Display for RecordFault {
+    ghost use Rattle.std.specs.Prelude.{Some};
+    ghost use Rattle.fault.specs.Printed.{record_printed};
+
+    ghost output = { λ f. Some (record_printed f) };
+
     fn fmt<W: fmt::Write>(&self, f: &mut fmt::Formatter<W>) -> fmt::Result {
         let number = self.number();
         match self {

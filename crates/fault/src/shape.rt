@@ -66,6 +66,11 @@ impl From<(usize, RecordFault)> for ShapeFault {
 }
 
 impl fmt::Display for ShapeFault {
+    ghost use Rattle.std.specs.Prelude.{Some};
+    ghost use Rattle.fault.specs.Printed.{shape_printed};
+
+    ghost output = { λ f. Some (shape_printed f) };
+
     fn fmt<W: fmt::Write>(&self, f: &mut fmt::Formatter<W>) -> fmt::Result {
         let number = self.number();
         match self {

@@ -41,6 +41,11 @@ impl TextFault {
 }
 
 impl fmt::Display for TextFault {
+    ghost use Rattle.std.specs.Prelude.{Some};
+    ghost use Rattle.fault.specs.Printed.{text_printed};
+
+    ghost output = { λ f. Some (text_printed f) };
+
     fn fmt<W: fmt::Write>(&self, f: &mut fmt::Formatter<W>) -> fmt::Result {
         let (TextFault::TooLong { place }
         | TextFault::NoToken { place }

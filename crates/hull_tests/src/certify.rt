@@ -94,3 +94,27 @@ fn refused(rt: HostRuntime) -> Result<(), Fail> {
     assert_eq!(rt; trial.hull.certify(), Err(ShapeFault::NoVolume));
     Ok(())
 }
+
+// Of several open edges the first in order of entry is named, whatever its keys and however many closed edges there are.
+#[test]
+fn first_open_edge(rt: HostRuntime) -> Result<(), Fail> {
+    let mut trial = Trial::new(&rt, rt.alloc())?;
+    let [a, b, c, _] = tetrahedron();
+    trial.enter(good(&[b, c, a]));
+    assert_eq!(rt;
+        trial.hull.certify(),
+        Err(ShapeFault::OpenEdge { from: 2, to: 3 })
+    );
+    trial.enter(good(&[a, c, b]));
+    let far = [
+        Corner::new(9, [0, 0, 1000]),
+        Corner::new(8, [600, 0, 1000]),
+        Corner::new(7, [0, 600, 1000]),
+    ];
+    trial.enter(good(&far));
+    assert_eq!(rt;
+        trial.hull.certify(),
+        Err(ShapeFault::OpenEdge { from: 9, to: 8 })
+    );
+    Ok(())
+}

@@ -1,3 +1,4 @@
 pub mod Answers
 pub mod Plate
 pub mod Tetrahedron
+pub mod Printed

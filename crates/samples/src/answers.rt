@@ -32,21 +32,59 @@ impl From<&Hull> for Answers {
     }
 }
 
-// Two lines, the second begun by two spaces.
-impl fmt::Display for Answers {
+// The first line of the answers: how many there are of each.
+#[derive(Clone, Copy)]
+pub struct Counts(pub Answers);
+
+impl fmt::Display for Counts {
+    ghost use Rattle.std.specs.Prelude.{Some};
+    ghost use Rattle.samples.specs.Printed.{counts_printed};
+
+    ghost output = { λ c. Some (counts_printed c.0) };
+
     fn fmt<W: fmt::Write>(&self, f: &mut fmt::Formatter<W>) -> fmt::Result {
         let Answers {
             faces,
             keys,
             edges,
             open_edges,
-            volume,
-            edge_sum: [x, y, z],
-        } = self;
-        writeln!(
+            ..
+        } = self.0;
+        write!(
             f,
             "faces {faces}, keys {keys}, directed edges {edges}, open edges {open_edges}"
-        )?;
-        write!(f, "  kept volume {volume}, edge sum ({x}, {y}, {z})")
+        )
+    }
+}
+
+// The second line of the answers: the kept volume and the edge sum.
+#[derive(Clone, Copy)]
+pub struct Volume(pub Answers);
+
+impl fmt::Display for Volume {
+    ghost use Rattle.std.specs.Prelude.{Some};
+    ghost use Rattle.samples.specs.Printed.{volume_printed};
+
+    ghost output = { λ v. Some (volume_printed v.0) };
+
+    fn fmt<W: fmt::Write>(&self, f: &mut fmt::Formatter<W>) -> fmt::Result {
+        let Answers {
+            volume,
+            edge_sum: [x, y, z],
+            ..
+        } = self.0;
+        write!(f, "kept volume {volume}, edge sum ({x}, {y}, {z})")
+    }
+}
+
+// Both lines, the second begun by two spaces.
+impl fmt::Display for Answers {
+    ghost use Rattle.std.specs.Prelude.{Some};
+    ghost use Rattle.samples.specs.Printed.{answers_printed};
+
+    ghost output = { λ a. Some (answers_printed a) };
+
+    fn fmt<W: fmt::Write>(&self, f: &mut fmt::Formatter<W>) -> fmt::Result {
+        write!(f, "{}\n  {}", Counts(*self), Volume(*self))
     }
 }

@@ -1,7 +1,7 @@
 // Vectors as three-element arrays by value, as a rule of the project asks: differences, sums and products, in widths that cannot overflow within the
 // stated bounds. An array carries no bound of its own, so the calls ask for it.
 ghost use Rattle.algebra.specs.Vector.{vector, ◌+ᵛ◌, ◌-ᵛ◌, cross as cross_of, dot as dot_of, Near, Inside, Small, Large};
-ghost use Rattle.std.specs.Prelude.{◌≡◌, Decides};
+ghost use Rattle.std.specs.Prelude.{◌≡◌, ◌^◌, ◌<◌, unsigned_abs, Decides};
 
 // A position with 64 bits to a coordinate.
 pub fn wide(p: [i32; 3]) -> [i64; 3]
@@ -57,10 +57,12 @@ pub fn cross(a: [i64; 3], b: [i64; 3]) -> [i64; 3]
     ]
 }
 
-// The scalar product of two vectors whose components lie within ±2 · 10^13: the sum can reach 1.2 · 10^27, and so it has 128 bits.
+// The scalar product of two vectors whose components lie within ±2 · 10^13: the sum can reach 1.2 · 10^27, and so it has 128 bits. Where the first is
+// within ±100,000, it fits an i64.
 pub fn dot(a: [i64; 3], b: [i64; 3]) -> i128
     requires { (Large (vector a)) × (Large (vector b)) }
-    ensures { result ≡ dot_of (vector a) (vector b) }
+    ensures is { result ≡ dot_of (vector a) (vector b) }
+    ensures fits { Small (vector a) → unsigned_abs result < 2 ^ 63 }
 {
     let a = a.map(i128::from);
     let b = b.map(i128::from);

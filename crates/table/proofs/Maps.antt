@@ -25,7 +25,7 @@ module _ {K V : Type 0} (R : K → K → Ordering) (es : List (K × V)) (s : T (
 module _ {K V : Type 0} (R : K → K → Ordering) (es : List (K × V)) (s : T (is_sorted R es)) (k : K) (i : ℕ) where
   -- the value that stands at the key's place
   pub read : Placed (from_sorted {R = R} es) k (Ok i) → (x : K × V) → x ≡ get_or es i x → Some x.1 ≡ get (from_sorted {R = R} es) k
-  read h x e = ap (λ (x : K × V). Some x.1) e ∙ sym (rw (entries-from_sorted R es s) at (h.1 x))
+  read h x e = ap (λ (x : K × V). Some x.1) e ∙ sym (rw (entries-from_sorted R es s) at (h.1 x).1)
 
   pub within : Placed (from_sorted {R = R} es) k (Ok i) → i < length es
   within h = rw (len_sorted R es s) at h.0
@@ -35,10 +35,10 @@ module _ {K V : Type 0} (R : K → K → Ordering) (es : List (K × V)) (s : T (
 
 module _ {K V : Type 0} {R : K → K → Ordering} (m : FinMap R V) (k : K) (v : V) (i : ℕ) (h : Placed m k (Ok i)) where
   pub stays : m ≡ insert_new m k v
-  stays = rw (h.1 (k, v)) refl
+  stays = rw (h.1 (k, v)).1 refl
 
   pub not_new : get m k ≡ None → ⊥
-  not_new e = true≢false (ap is_some (sym (h.1 (k, v)) ∙ e))
+  not_new e = true≢false (ap is_some (sym (h.1 (k, v)).1 ∙ e))
 
 module _ {A E : Type 0} where
   pub on_ok : (r : Result A E) {P : Type 0} → P → OnOk r P

@@ -82,7 +82,7 @@ module _ {K V : Type 0} {R : K → K → Ordering} (o : IsTotalOrder R) where
     pub placed : (es : List (K × V)) (r : Result ℕ ℕ) → T (is_sorted R es) → IsSearchInRange r (length es) → IsBinarySearchResult (λ e. R e.0 k) es r → Placed (from_sorted {R = R} es) k r
     placed es (Ok i) s l h =
         let is = entries-from_sorted R es s in
-        (rw (len-entries (from_sorted {R = R} es), is) l, λ d. rw is (get-from_sorted R es k s ∙ found es i s l h d))
+        (rw (len-entries (from_sorted {R = R} es), is) l, λ d. (rw is (h d), rw is (get-from_sorted R es k s ∙ found es i s l h d)))
     placed es (Err i) s l h =
         let is = entries-from_sorted R es s in
         let parts = h (rises k es s) in (

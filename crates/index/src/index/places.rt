@@ -44,8 +44,8 @@ impl Index {
         requires { place < length (all_edges (faces_of self.now)) }
         ensures { MatchOption result (In (flip (edge_at (faces_of self.now) place)) (all_edges (faces_of self.now)) → ⊥) (λ q. Twin (faces_of self.now) place q) }
     {
-        let from = self.faces.key(place);
-        let to = self.faces.key(self.next(place));
+        let from = self.key(place);
+        let to = self.key(self.next(place));
         self.edges.find(&(to, from))
     }
 

@@ -11,11 +11,16 @@ use crate::index::closed::ClosedIndex;
 use fault::shape::ShapeFault;
 
 impl Index {
-    // The index as one in which no edge is open, or the fault that names one that is.
+    // The index as one in which no edge is open, or the fault that names the first open edge in order of entry. Out of line, since a hull that counts no
+    // open edge doesn't come here.
+    #[cold]
+    #[inline(never)]
     pub fn closed(&self) -> Result<ClosedIndex<'_>, ShapeFault>
         ensures { ClosedOr self.now result }
     {
-        for &((from, to), _) in self.edges_by_key() {
+        for place in 0..self.edge_count() {
+            let from = self.key(place);
+            let to = self.key(self.next(place));
             if self.edges.find(&(to, from)).is_none() {
                 return Err(ShapeFault::OpenEdge { from, to });
             }

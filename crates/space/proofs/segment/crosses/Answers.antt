@@ -33,8 +33,8 @@ passed k h = to_z-of_z w128 k (record { sfits = h })
 
 pub returns : goal.returns
 returns c =
-    moved c.is_shared.result (passed c.dot.result c.dot.type_inv ∙ c.dot.ensures ∙ ap₂ dot c.cross-n.ensures c.cross-n.ensures)
-    (passed c.dot-2.result c.dot-2.type_inv ∙ c.dot-2.ensures ∙ ap (dot (vector c.args.w)) c.cross-n.ensures)
-    (passed c.dot-3.result c.dot-3.type_inv ∙ c.dot-3.ensures ∙ ap₂ dot c.cross-along_u.ensures c.cross-n.ensures)
-    (passed c.dot-4.result c.dot-4.type_inv ∙ c.dot-4.ensures ∙ ap₂ dot c.cross-along_v.ensures c.cross-n.ensures)
+    moved c.is_shared.result (passed c.dot.result c.dot.type_inv ∙ c.dot.ensures.is ∙ ap₂ dot c.cross-n.ensures c.cross-n.ensures)
+    (passed c.dot-2.result c.dot-2.type_inv ∙ c.dot-2.ensures.is ∙ ap (dot (vector c.args.w)) c.cross-n.ensures)
+    (passed c.dot-3.result c.dot-3.type_inv ∙ c.dot-3.ensures.is ∙ ap₂ dot c.cross-along_u.ensures c.cross-n.ensures)
+    (passed c.dot-4.result c.dot-4.type_inv ∙ c.dot-4.ensures.is ∙ ap₂ dot c.cross-along_v.ensures c.cross-n.ensures)
     c.is_shared.ensures

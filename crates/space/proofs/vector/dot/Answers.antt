@@ -1,9 +1,9 @@
 -- Each step fits 128 bits, by the bound that `Machine` computes from ±2 · 10^13, and the last one is the answer.
-use Rattle.std.proofs.Common.{◌≡◌, ◌∙◌, rules, sym, subst, ap₂}
+use Rattle.std.proofs.Common.{◌≡◌, ℕ, ◌^◌, ◌<◌, ◌≤◌, T, ltb, nat_abs, ◌∙◌, rules, arith, sym, subst, ap₂, ltb→lt}
 use mir.Syntax.{w128}
-use Rattle.algebra.specs.Vector.{V3, vector, dot, Large}
+use Rattle.algebra.specs.Vector.{V3, vector, dot, Small, Large}
 use Rattle.algebra.proofs.Bounds.{◌∷ᵛ◌}
-use Rattle.algebra.proofs.Machine.{done, fits, stored}
+use Rattle.algebra.proofs.Machine.{done, within, fits, stored}
 use Rattle.algebra.proofs.Ring.{◌⊕◌, ◌⊗◌}
 use Rattle.algebra.proofs.Vectors.{𝐚, 𝐛, dotᴱ}
 use Rattle.space.proofs.vector.dot.Goals as goal
@@ -38,7 +38,17 @@ pub overflow_add-result-2 : goal.overflow_add-result-2
 overflow_add-result-2 c =
     let d = (goal.at.overflow_add-result-2 c).After-map-b in fits w128 (large (first d) c.requires.0 ∷ᵛ large (second d) c.requires.1 ∷ᵛ done) (dotᴱ 𝐚 𝐛) tt
 
-pub returns : goal.returns
-returns c =
-    let d = (goal.at.returns c).After-map-b in
+pub returns-clause-is : goal.returns-clause-is
+returns-clause-is c =
+    let d = (goal.at.returns-clause-is c).After-map-b in
     stored w128 (large (first d) c.requires.0 ∷ᵛ large (second d) c.requires.1 ∷ᵛ done) (dotᴱ 𝐚 𝐛) tt ∙ ap₂ dot (first d) (second d)
+
+below : (n m k : ℕ) → n ≤ m → T (ltb m k) → n < k
+below n m k h t = omega (arith, h, ltb→lt m k t)
+
+-- three products of at most 100,000 and 2 · 10^13
+pub returns-clause-fits : goal.returns-clause-fits
+returns-clause-fits c = λ small.
+    let d = (goal.at.returns-clause-fits c).After-map-b in
+    let sum = stored w128 (large (first d) c.requires.0 ∷ᵛ large (second d) c.requires.1 ∷ᵛ done) (dotᴱ 𝐚 𝐛) tt in
+    subst (λ z. nat_abs z < 2 ^ 63) (sym sum) (below _ _ (2 ^ 63) (within (subst Small (sym (first d)) small ∷ᵛ large (second d) c.requires.1 ∷ᵛ done) (dotᴱ 𝐚 𝐛)) tt)

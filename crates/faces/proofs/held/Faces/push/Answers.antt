@@ -1,4 +1,4 @@
-use Rattle.std.proofs.Common.{◌≡◌, ◌+◌, Bool, true, cond, ◌++◌, length, is_ok, vec_len, refl, ap, ◌∙◌, arith}
+use Rattle.std.proofs.Common.{◌≡◌, ◌+◌, Bool, true, true≢false, sym, cond, ◌++◌, length, is_ok, vec_len, refl, ap, ◌∙◌, arith}
 use Rattle.faces.proofs.Pushes.{face_count, corner_count, rings_push, rise_more}
 use Rattle.faces.proofs.held.Faces.push.Goals as goal
 use Rattle.faces.proofs.held.Faces.push.Goals.{then-len-capacity-via-then-len-capacity, then-len-capacity-via-else-len-capacity+then-capacity-end, After-unwrap}
@@ -12,6 +12,7 @@ returns-then-len-capacity c =
         | then-len-capacity-via-then-len-capacity w ↦ omega (arith, room.0, w.if-len-capacity.true)
         | then-len-capacity-via-else-len-capacity+then-capacity-end w ↦ omega (arith, room.1, w.if-capacity-end.true, w.capacity-else-len-capacity.ensures)
       ]);
+      fits = λ taken. absurd (true≢false (sym taken));
       rings = refl;
       corners = refl;
       room = λ faces corners room. room;
@@ -35,6 +36,7 @@ returns c =
     let held = c.extend_from_slice.ensures.items ∙ ap (λ (b : Bool). cond b (s.corners.items ++ ring) s.corners.items) (done (goal.at.returns c).After-unwrap) in
     record {
       answer = λ _ _ _ _ _. refl;
+      fits = λ _. (omega (arith, c.len.ensures, face_count s, c.capacity.ensures, c.if-len-capacity.false, s.ends.ok.1), omega (arith, c.corner_count.ensures, c.capacity-else-len-capacity.ensures, c.if-capacity-end.false));
       rings = rings_push s ring _ _ _ held c.push_reserved.ensures.items (omega (arith, c.len.ensures));
       corners = held;
       room = λ faces corners room. (omega (arith, room.0, c.push_reserved.ensures.capacity), omega (arith, room.1, c.extend_from_slice.ensures.capacity));

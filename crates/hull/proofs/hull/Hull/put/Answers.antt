@@ -51,7 +51,7 @@ overflow_mul-self c = omega (arith, few_reverses (goal.at.overflow_mul-self c).A
 
 -- what the face adds to the volume, and the volume then
 height_is : (c : After-dot-height) → c.dot-height.result ≡ dot (start (ring_of c.args.ring.now.corners.now)) (D (ring_of c.args.ring.now.corners.now))
-height_is c = c.dot-height.ensures ∙ ap₂ dot (c.wide.ensures.is ∙ start_is c.args.ring.now.corners.now) c.args.ring.now.is_normal
+height_is c = c.dot-height.ensures.is ∙ ap₂ dot (c.wide.ensures.is ∙ start_is c.args.ring.now.corners.now) c.args.ring.now.is_normal
 
 bounded : (c : After-dot-height) → Tidy (ring_of c.args.ring.now.corners.now) → Bounded (c.args.self.now.volume ∷ c.dot-height.result ∷ []) (3072 * (75 * 10 ^ 13) ∷ 64 * (75 * 10 ^ 13) ∷ [])
 bounded c t =

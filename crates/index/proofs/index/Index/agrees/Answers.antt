@@ -1,5 +1,11 @@
-use Rattle.std.proofs.Common.{◌≡◌, Bool, true, false, not, length, Decides, sym, ap, ◌∙◌, subst, rules}
+use Rattle.std.proofs.Common.{◌≡◌, ℕ, Bool, true, false, not, List, length, ℤ, Option, Decides, sym, ap, ◌∙◌, subst, rules}
 use Rattle.algebra.proofs.Arrays.{same_vector, coordinates_of}
+use Rattle.algebra.specs.Vector.{V3, vector, coordinates}
+use Rattle.std.specs.FinMap.{find, get}
+use Rattle.faces.specs.Held.{stored_corners}
+use Rattle.table.specs.Seen.{map_of}
+use Rattle.tracking.specs.Tables.{position_cmp, position_pairs}
+use Rattle.index.specs.declared.index.Index.{Index}
 use Rattle.index.specs.Meaning.{faces_of}
 use Rattle.tracking.specs.Tests.{AgreesWith}
 use Rattle.solid.specs.Corners.{corner_of}
@@ -17,10 +23,13 @@ turned : (a r : Bool) → a ≡ not r → not a ≡ r
 turned a true e = ap not e
 turned a false e = ap not e
 
+-- a position that is looked up is found as the coordinates of its vector
+by_vector : (h : Index) (o : Option ℕ) (p : List ℤ) → o ≡ get (map_of position_cmp h.corners.keys) p → (v : V3) → length p ≡ 3 → vector p ≡ v → o ≡ find position_cmp (coordinates v) (position_pairs (stored_corners h.faces))
+by_vector h o p e v long is = rw (← is, coordinates_of p long) (e ∙ key_found h p)
+
 pub returns-in-None : goal.returns-in-None
 returns-in-None c =
     let h = c.args.self.now in
-    let long : length c.args.c.position ≡ 3 = search rules in
+    let sought = by_vector h c.find-in-None.result _ c.find-in-None.ensures (vector c.args.c.position) (search rules) (search rules) in
     subst (λ b. Decides b (AgreesWith (faces_of h) (corner_of c.args.c))) (turned _ _ c.is_none.ensures)
-    (agrees_none h.faces (consistent h) c.args.c (sym (c.in-None.ensures ∙ position_found h _)) c.find-in-None.result
-    (rw (coordinates_of c.args.c.position long) (c.find-in-None.ensures ∙ key_found h _)))
+    (agrees_none h.faces (consistent h) c.args.c (sym (c.in-None.ensures ∙ position_found h _)) c.find-in-None.result sought)

@@ -26,7 +26,7 @@ difference-requires c =
 -- what `dot` returned
 height_is : (c : After-dot-height) → c.dot-height.result ≡ dot ((corner c.args.self.now.corners.now c.loop-corner.corner-index).position -ᵛ start (ring_of c.args.self.now.corners.now)) (D (ring_of c.args.self.now.corners.now))
 height_is c =
-    c.dot-height.ensures
+    c.dot-height.ensures.is
     ∙ ap₂ dot (c.difference.ensures.is ∙ ap (λ p. (corner c.args.self.now.corners.now c.loop-corner.corner-index).position -ᵛ p) (start_is c.args.self.now.corners.now)) c.args.self.now.is_normal
 
 -- a test against 0 compares bits

@@ -57,7 +57,7 @@ pub returns-else-ne : goal.returns-else-ne
 returns-else-ne c =
     let d = (goal.at.returns-else-ne c).After-ne in
     let line = sym (ap₂ cross c.difference-u.ensures.is (onward d)) ∙ sym c.cross.ensures ∙ (bent d).0 (ap not c.if-ne.false) in
-    let value = c.dot.ensures ∙ ap₂ dot c.difference-u.ensures.is (onward d) in
+    let value = c.dot.ensures.is ∙ ap₂ dot c.difference-u.ensures.is (onward d) in
     let test = above c.dot.result c.dot.type_inv in (
       λ e. straight_only (vector c.args.self.from) (vector c.args.self.to) (vector c.args.next.to) (subst (λ k. pos 0 <ℤ k) value (test.0 e)),
       λ only. by_lt_z (pos 0) c.dot.result test.1 (λ l. absurd (turned_not (vector c.args.self.from) (vector c.args.self.to) (vector c.args.next.to) line (subst (λ k. k ≤ℤ pos 0) value l) only)),
