@@ -1,6 +1,6 @@
 -- What each fault prints: its number, and where it is.
 use Rattle.std.specs.Prelude.{ℕ, List, ◌++◌, codes, decimal}
-use Rattle.fault.specs.Numbers.{text_number, record_number, shape_number}
+use Rattle.fault.specs.Numbers.{text_number}
 use Rattle.fault.specs.declared.text.TextFault.{TextFault}
 use Rattle.fault.specs.declared.text.TextFault.TheVariants.{TooLong, NoToken, Unexpected, TooDeep, Level, NoRoom, Again}
 use Rattle.fault.specs.declared.record.RecordFault.{RecordFault}

@@ -1,5 +1,5 @@
 -- What a hull's answers print: a line of how many there are of each thing, and a line of the volume and the edge sum.
-use Rattle.std.specs.Prelude.{ℕ, List, ◌∷◌, ◌++◌, ℤ, pos, codes, decimal, slice_index_or}
+use Rattle.std.specs.Prelude.{ℕ, List, ◌++◌, ℤ, pos, codes, decimal, slice_index_or}
 use Rattle.std.specs.Fmt.{signed_decimal}
 use Rattle.samples.specs.declared.answers.Answers.{Answers}
 

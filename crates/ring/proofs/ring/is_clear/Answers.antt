@@ -1,5 +1,5 @@
 use Rattle.std.proofs.Common.{◌≡◌, Bool, Decides, rules, ap, subst}
-use Rattle.algebra.specs.Vector.{V3, vector}
+use Rattle.algebra.specs.Vector.{V3}
 use Rattle.algebra.specs.Segments.{OnlyCorner}
 use Rattle.ring.specs.Places.{Clear, edge_of}
 use Rattle.ring.proofs.Pairs.{follows, precedes}

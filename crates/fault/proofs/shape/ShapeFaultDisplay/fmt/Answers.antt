@@ -1,5 +1,5 @@
 -- The texts with an edge, whose number is that of the kind.
-use Rattle.std.proofs.Common.{◌≡◌, ap, ◌∙◌, subst}
+use Rattle.std.proofs.Common.{ap, ◌∙◌, subst}
 use Rattle.std.specs.Fmt.{HasWritten}
 use Rattle.fault.specs.Numbers.{shape_number}
 use Rattle.fault.specs.Printed.{at_face_edge, at_edge}
